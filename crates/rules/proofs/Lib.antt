@@ -1,0 +1,4 @@
+-- What follows from the rules: laws of the definitions, which the proofs of the code cite, and the theorems that a reader is promised.
+pub mod Lists
+pub mod Whole
+pub mod Rows
