@@ -1,0 +1,9 @@
+-- `octets::bit` meets its contract. A mask of one bit is a remainder.
+use Prim.Native.Nat.{_/_, _^_}
+use lib.Bits.{and-mask}
+use borrow.Author.Needs.{needs}
+use Rattle.octets.proofs.bit.Statement.{statement}
+use Rattle.octets.proofs.bit.Tie as tie
+
+pub bit-spec : {M : Type 1} → statement M
+bit-spec = tie.close (tie.spec (search needs) (λ c. and-mask (c .args .octet / 2 ^ c .args .k) 1))

@@ -1,0 +1,15 @@
+-- `octets::put` meets its contract. A run written from 0 on is written over.
+use mathlib.Core.Path.{_∙_}
+use borrow.Author.Needs.{needs}
+use denote.Ref.{now}
+use Rattle.octets.proofs.Runs.{sets-over}
+use Rattle.octets.proofs.put.Statement.{statement}
+use Rattle.octets.proofs.put.Tie as tie
+
+returns : tie.Need-returns
+returns c =
+    let start = c .before .before .before .before .before .before in
+    c .before .before .write-at .ensures ∙ sets-over (now (start .args .run)) (now (start .args .s)) (start .pre)
+
+pub put-spec : {M : Type 1} → statement M
+put-spec = tie.close (tie.spec (λ c κs. search needs) (λ c. search needs) returns)
