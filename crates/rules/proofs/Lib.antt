@@ -1,5 +1,6 @@
 -- What follows from the rules: laws of the definitions, which the proofs of the code cite, and the theorems that a reader is promised.
 pub mod Lists
 pub mod Records
+pub mod Apart
 pub mod Whole
 pub mod Rows

@@ -1,0 +1,51 @@
+-- The paper's number and value tell any two outcomes apart: from them the outcome can be read back.
+use mathlib.Core.Path.{_≡_, refl, sym, ap₂, _∙_}
+use mathlib.Core.Bool.{cond}
+use Prim.Native.Nat.{ℕ}
+use lib.Dec.{eqb}
+use Rattle.rules.specs.Outcomes.{numberOf, valueOf}
+use Rattle.rules.specs.declared.Outcome.{Outcome}
+use Rattle.rules.specs.declared.Outcome.the-variants.{Done, Forwarded, Nobody, WrongLength, WrongDataLength, WrongType, NoSource, NoDestination, ResponseToMany, Unsound, NoRoom, NotServed, NoCopy, OutOfRange, AlreadyAdmitted, NoFreeRecord, NotAdmitted}
+
+-- the outcome with this number and value
+abbrev readBack : ℕ → ℕ → Outcome
+readBack n v =
+    cond (eqb n 0) (Done v)
+    (cond (eqb n 1) (Forwarded v)
+    (cond (eqb n 2) Nobody
+    (cond (eqb n 10) WrongLength
+    (cond (eqb n 11) WrongDataLength
+    (cond (eqb n 12) WrongType
+    (cond (eqb n 13) NoSource
+    (cond (eqb n 14) NoDestination
+    (cond (eqb n 15) ResponseToMany
+    (cond (eqb n 16) Unsound
+    (cond (eqb n 17) NoRoom
+    (cond (eqb n 18) NotServed
+    (cond (eqb n 19) NoCopy
+    (cond (eqb n 20) OutOfRange
+    (cond (eqb n 21) AlreadyAdmitted
+    (cond (eqb n 22) NoFreeRecord
+    NotAdmitted)))))))))))))))
+
+read-back : (o : Outcome) → readBack (numberOf o) (valueOf o) ≡ o
+read-back (Done n) = refl
+read-back (Forwarded n) = refl
+read-back Nobody = refl
+read-back WrongLength = refl
+read-back WrongDataLength = refl
+read-back WrongType = refl
+read-back NoSource = refl
+read-back NoDestination = refl
+read-back ResponseToMany = refl
+read-back Unsound = refl
+read-back NoRoom = refl
+read-back NotServed = refl
+read-back NoCopy = refl
+read-back OutOfRange = refl
+read-back AlreadyAdmitted = refl
+read-back NoFreeRecord = refl
+read-back NotAdmitted = refl
+
+pub apart : (a b : Outcome) → numberOf a ≡ numberOf b → valueOf a ≡ valueOf b → a ≡ b
+apart a b n v = sym (read-back a) ∙ ap₂ readBack n v ∙ read-back b
