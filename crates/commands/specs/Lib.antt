@@ -1,0 +1,2 @@
+-- What the contracts of the commands cite besides the rules.
+pub mod Decode
