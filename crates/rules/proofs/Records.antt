@@ -44,6 +44,19 @@ length-records k t = length-cut (length t / k) k t
 pub length-record : (k at : ℕ) (t : List ℕ) → at + k ≤ length t → length (take k (drop at t)) ≡ k
 length-record k at t l = length-take-le k (drop at t) (rw length-drop (omega arith))
 
+-- What holds of no records, and of the record at `at` with those after it where it holds of those, holds of all.
+records-from : (k : ℕ) (t : List ℕ) (P : ℕ → List Rec → Type 0) → ((at : ℕ) → P at [])
+    → ((at : ℕ) (rs : List Rec) → at + k ≤ length t → P (at + k) rs → P at (take k (drop at t) ∷ rs))
+    → (n at : ℕ) → at + n * k ≤ length t → P at (cut n k (drop at t))
+records-from k t P base more zero at h = base at
+records-from k t P base more (suc n) at h =
+    more at (cut n k (drop k (drop at t))) (omega arith) (rw drop-drop (records-from k t P base more n (at + k) (omega arith)))
+
+pub records-all : (k : ℕ) (t : List ℕ) (P : ℕ → List Rec → Type 0) → ((at : ℕ) → P at [])
+    → ((at : ℕ) (rs : List Rec) → at + k ≤ length t → P (at + k) rs → P at (take k (drop at t) ∷ rs)) → P 0 (records k t)
+unfolding records
+records-all k t P base more = records-from k t P base more (length t / k) 0 (rw zero-add (div-mul-le-self (length t) k))
+
 -- A test of the record at `at`, by a test of the table
 
 starts-take : (w s : List ℕ) (k : ℕ) → length w ≤ k → starts w (take k s) ≡ starts w s
