@@ -10,8 +10,8 @@ use native.Mathlib.Numerals.{add-one}
 use native.Mathlib.Omega.{arith}
 use lib.Dec.{eqb}
 use lib.ListN.{length, take, drop, getD, length-append, length-drop, replicate, length-replicate, length-map}
-use lib.Seq.{drop-drop, drop-length, take-length, length-take-le, take-add, take-at, drop-at, sets, sets-eq, length-sets}
-use Rattle.rules.specs.Octets.{starts}
+use lib.Seq.{getD-take, getD-drop, drop-drop, drop-length, take-length, length-take-le, take-add, take-at, drop-at, sets, sets-eq, length-sets}
+use Rattle.rules.specs.Octets.{octet, starts}
 use Rattle.rules.specs.Tables.{Rec, cut, records, bytes, free?, blank, matches, put, clear, Change, none, store, wipe, written}
 
 -- Cutting
@@ -43,6 +43,10 @@ length-records k t = length-cut (length t / k) k t
 -- the record at `at` has k octets
 pub length-record : (k at : ℕ) (t : List ℕ) → at + k ≤ length t → length (take k (drop at t)) ≡ k
 length-record k at t l = length-take-le k (drop at t) (rw length-drop (omega arith))
+
+-- octet i of the record at `at`
+pub octet-at : (k at i : ℕ) (t : List ℕ) → i < k → octet i (take k (drop at t)) ≡ octet (at + i) t
+octet-at k at i t h = rw (getD-take k (drop at t) i 0 h, getD-drop)
 
 -- What holds of no records, and of the record at `at` with those after it where it holds of those, holds of all.
 records-from : (k : ℕ) (t : List ℕ) (P : ℕ → List Rec → Type 0) → ((at : ℕ) → P at [])

@@ -5,7 +5,7 @@ use mathlib.Core.List.{List, [], _∷_}
 use Prim.Native.Nat.{ℕ, _+_, _-_, _≤_, _<_}
 use native.Mathlib.Omega.{arith}
 use lib.ListN.{length, take, drop}
-use Rattle.rules.specs.Lists.{any, all, keep, firstOf}
+use Rattle.rules.specs.Lists.{_&_, any, keep, firstOf}
 use Rattle.rules.specs.Tables.{Rec, records, free?, used}
 use Rattle.rules.proofs.Records.{records-at, records-end, records-all}
 use Rattle.tables.specs.Search.{passes, foundAt}
@@ -28,6 +28,11 @@ any-hit q r t e = any-used q r t ∙ rw e
 
 pub any-miss : (q : Rec → Bool) (r : Rec) (t : List Rec) → passes q r ≡ false → any q (used (r ∷ t)) ≡ any q (used t)
 any-miss q r t e = any-used q r t ∙ rw e
+
+-- a record passes two tests: it passes the first, and then the second
+pub passes-both : (p q : Rec → Bool) (r : Rec) → (passes p r && q r) ≡ passes (λ x. p x & q x) r
+unfolding passes _&_
+passes-both p q r = elim (free? r) as (λ b. ((not b && p r) && q r) ≡ (not b && (p r && q r))) [ true ↦ refl | false ↦ refl ]
 
 -- What a search finds
 

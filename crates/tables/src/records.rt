@@ -8,7 +8,7 @@ ghost use Rattle.rules.specs.Tables.{records, used, room?, matches, written, st
 ghost use Rattle.tables.specs.Search.{passes, foundAt};
 
 // Is the record at `at` in use, with `want` from its place `from` on? A free record is never a match.
-fn matches_at(table: &[u8], size: usize, at: usize, from: usize, want: &[u8]) -> bool
+pub fn matches_at(table: &[u8], size: usize, at: usize, from: usize, want: &[u8]) -> bool
     requires { ⌜ (at + size ≤ length (now table)) × (from + length (now want) ≤ size) ⌝ }
     ensures { λ r. ⌜ r ≡ passes (matches from (now (want .entry))) (take size (drop at (now (table .entry)))) ⌝ }
 {
