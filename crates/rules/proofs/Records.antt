@@ -10,8 +10,8 @@ use native.Mathlib.Numerals.{add-one}
 use native.Mathlib.Omega.{arith}
 use lib.Dec.{eqb}
 use lib.ListN.{length, take, drop, getD, length-append, length-drop, replicate, length-replicate, length-map}
-use lib.Seq.{drop-drop, drop-length, take-length, length-take-le, take-add, take-at, drop-at, sets, sets-eq, length-sets}
-use Rattle.rules.specs.Octets.{starts}
+use lib.Seq.{getD-take, getD-drop, drop-drop, drop-length, take-length, length-take-le, take-add, take-at, drop-at, sets, sets-eq, length-sets}
+use Rattle.rules.specs.Octets.{octet, starts}
 use Rattle.rules.specs.Tables.{Rec, cut, records, bytes, free?, blank, matches, put, clear, Change, none, store, wipe, written}
 
 -- Cutting
@@ -43,6 +43,23 @@ length-records k t = length-cut (length t / k) k t
 -- the record at `at` has k octets
 pub length-record : (k at : ℕ) (t : List ℕ) → at + k ≤ length t → length (take k (drop at t)) ≡ k
 length-record k at t l = length-take-le k (drop at t) (rw length-drop (omega arith))
+
+-- octet i of the record at `at`
+pub octet-at : (k at i : ℕ) (t : List ℕ) → i < k → octet i (take k (drop at t)) ≡ octet (at + i) t
+octet-at k at i t h = rw (getD-take k (drop at t) i 0 h, getD-drop)
+
+-- What holds of no records, and of the record at `at` with those after it where it holds of those, holds of all.
+records-from : (k : ℕ) (t : List ℕ) (P : ℕ → List Rec → Type 0) → ((at : ℕ) → P at [])
+    → ((at : ℕ) (rs : List Rec) → at + k ≤ length t → P (at + k) rs → P at (take k (drop at t) ∷ rs))
+    → (n at : ℕ) → at + n * k ≤ length t → P at (cut n k (drop at t))
+records-from k t P base more zero at h = base at
+records-from k t P base more (suc n) at h =
+    more at (cut n k (drop k (drop at t))) (omega arith) (rw drop-drop (records-from k t P base more n (at + k) (omega arith)))
+
+pub records-all : (k : ℕ) (t : List ℕ) (P : ℕ → List Rec → Type 0) → ((at : ℕ) → P at [])
+    → ((at : ℕ) (rs : List Rec) → at + k ≤ length t → P (at + k) rs → P at (take k (drop at t) ∷ rs)) → P 0 (records k t)
+unfolding records
+records-all k t P base more = records-from k t P base more (length t / k) 0 (rw zero-add (div-mul-le-self (length t) k))
 
 -- A test of the record at `at`, by a test of the table
 
