@@ -3,12 +3,13 @@ use mathlib.Core.Path.{_≡_, refl, sym, ap, _∙_}
 use mathlib.Core.List.{List, [], _∷_, _++_}
 use Prim.Native.Nat.{ℕ, zero, suc, _+_, _-_, _*_, _/_, _%_, _≤_, _<_}
 use native.Mathlib.Omega.{arith}
+use borrow.Author.Tests.{ne-eqb}
 use native.Mathlib.Nat.{sub-zero, zero-sub}
 use lib.ListN.{length, getD, set, take, drop, replicate, drop-of-length-le}
 use lib.Seq.{drop-cons, take-append-seam}
 use Rattle.rules.specs.Octets.{word, octets, ignoreTop, over}
 use Rattle.rules.specs.Message.{fields}
-use Rattle.rules.specs.Commands.{command, bindOf, memberOf, groupNamed, groupRecord}
+use Rattle.rules.specs.Commands.{command, bindOf, memberOf, groupNamed, groupRecord, wanted}
 use Rattle.commands.specs.Decode.{commandIn}
 
 -- the fields tell the command
@@ -62,3 +63,18 @@ drop-replicate (suc n) (suc m) v =
 pub record-octets : (g : ℕ) (p : List ℕ) → length p ≤ 14 → g / 256 ∷ g % 256 ∷ over p (replicate 14 0) ≡ groupRecord g p
 unfolding groupRecord over octets
 record-octets g p h = rw (drop-replicate (length p) 14 0)
+
+-- what a removal looks for
+
+pub wanted-source : {from : ℕ} (p : List ℕ) → from ≡ 0 → ignoreTop p ≡ wanted from p
+unfolding wanted
+wanted-source p z = rw z
+
+pub wanted-destination : {from : ℕ} (p : List ℕ) → (from ≡ 0 → ⊥) → p ≡ wanted from p
+unfolding wanted
+wanted-destination {from} p z = rw (ne-eqb from 0 z)
+
+pub length-ignored : (p : List ℕ) → length (ignoreTop p) ≡ length p
+unfolding ignoreTop
+length-ignored [] = refl
+length-ignored (o ∷ p) = refl

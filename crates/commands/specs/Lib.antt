@@ -1,2 +1,3 @@
 -- What the contracts of the commands cite besides the rules.
 pub mod Decode
+pub mod Handlers

@@ -1,0 +1,86 @@
+-- Laws of what handlers answer: a code of 0x00 comes with the change, any other with the table as it was.
+use mathlib.Core.Path.{_≡_, refl, sym, ap, _∙_}
+use mathlib.Core.Bool.{Bool, true, false, cond}
+use mathlib.Core.List.{List}
+use Prim.Native.Nat.{ℕ, _≤_, _<_}
+use native.Mathlib.Omega.{arith}
+use borrow.Author.Tests.{eq-eqb, ne-eqb, lt-leb, le-leb, leb-true}
+use lib.Dec.{eqb, leb}
+use Rattle.rules.specs.Lists.{any, ask}
+use Rattle.rules.specs.Names.{ok, invalidArgument, notEnoughResources}
+use Rattle.rules.specs.Tables.{Rec, records, used, room?, matches, addressed, Change, wipe, written}
+use Rattle.rules.specs.Octets.{octet, octets}
+use Rattle.rules.specs.Exists.{groupExists}
+use Rattle.rules.specs.declared.Code.{Code}
+use Rattle.commands.specs.Handlers.{Decided, decided, onOk, deciding, addition, removal, creation, Freed, deleted, deletion, deleting}
+
+pub changes : (k : ℕ) {c d : Code} (x : Change) (t : List ℕ) {t' : List ℕ} → c ≡ d → c .0 ≡ 0 → t' ≡ written k x t → decided c t' ≡ deciding k d x t
+unfolding deciding onOk
+changes k {c} {d} x t {t'} e z w = rw (← e, eq-eqb (c .0) 0 z, w)
+
+pub stays : (k : ℕ) {c d : Code} (x : Change) {t : List ℕ} → c ≡ d → (c .0 ≡ 0 → ⊥) → decided c t ≡ deciding k d x t
+unfolding deciding onOk written
+stays k {c} {d} x {t} e z = rw (← e, ne-eqb (c .0) 0 z)
+
+-- an addition, by what was found
+
+pub there : (r : Rec) (t : List Rec) → any (matches 0 r) (used t) ≡ true → invalidArgument ≡ addition r t
+unfolding addition ask
+there r t h = rw h
+
+pub no-room : (r : Rec) (t : List Rec) → any (matches 0 r) (used t) ≡ false → room? t ≡ false → notEnoughResources ≡ addition r t
+unfolding addition ask
+no-room r t h g = rw (h, g)
+
+pub new : (r : Rec) (t : List Rec) → any (matches 0 r) (used t) ≡ false → room? t ≡ true → ok ≡ addition r t
+unfolding addition ask
+new r t h g = rw (h, g)
+
+-- a removal, by what was found
+
+pub absent : (from : ℕ) (want : List ℕ) (t : List Rec) → any (matches from want) (used t) ≡ false → invalidArgument ≡ removal from want t
+unfolding removal ask
+absent from want t h = rw h
+
+pub present : (from : ℕ) (want : List ℕ) (t : List Rec) → any (matches from want) (used t) ≡ true → ok ≡ removal from want t
+unfolding removal ask
+present from want t h = rw h
+
+-- an address is compared by its octets
+pub by-octets : (k g : ℕ) (t : List ℕ) → written k (wipe (matches 0 (octets g))) t ≡ written k (wipe (addressed g)) t
+unfolding addressed
+by-octets k g t = refl
+
+-- Create Group, by what was found
+
+pub name-too-long : (p : List ℕ) (t : List Rec) → 13 < octet 0 p → notEnoughResources ≡ creation p t
+unfolding creation ask
+name-too-long p t h = rw (lt-leb _ _ h)
+
+pub no-group-room : (p : List ℕ) (t : List Rec) → octet 0 p ≤ 13 → room? t ≡ false → notEnoughResources ≡ creation p t
+unfolding creation ask
+no-group-room p t h g = rw (le-leb _ _ h, g)
+
+pub creatable : (p : List ℕ) (t : List Rec) → octet 0 p ≤ 13 → room? t ≡ true → ok ≡ creation p t
+unfolding creation ask
+creatable p t h g = rw (le-leb _ _ h, g)
+
+-- .. and of 0x00 the name fits
+pub name-fits : (p : List ℕ) (t : List Rec) {c : Code} → c ≡ creation p t → c .0 ≡ 0 → octet 0 p ≤ 13
+unfolding creation ask
+name-fits p t {c} e z = step (leb (octet 0 p) 13) refl (sym (ap (λ (d : Code). d .0) e) ∙ z)
+  where
+    step : (b : Bool) → leb (octet 0 p) 13 ≡ b → (cond b (cond (room? t) ok notEnoughResources) notEnoughResources) .0 ≡ 0 → octet 0 p ≤ 13
+    step true h w = leb-true (octet 0 p) 13 h
+    step false h w = absurd (omega arith)
+
+-- Delete Group, by what was found
+
+pub no-group : (g : ℕ) (bs gs ms : List ℕ) → groupExists (records 16 gs) g ≡ false → deleted invalidArgument bs gs ms ≡ deleting g bs gs ms
+unfolding deleting deletion ask onOk written
+no-group g bs gs ms h = rw h
+
+pub group-gone : (g : ℕ) (bs gs ms : List ℕ) {bs' gs' ms' : List ℕ} → groupExists (records 16 gs) g ≡ true → Freed g bs gs ms bs' gs' ms'
+    → deleted ok bs' gs' ms' ≡ deleting g bs gs ms
+unfolding deleting deletion ask onOk
+group-gone g bs gs ms h f = rw (h, f .binds, f .groups, f .members)

@@ -1,0 +1,71 @@
+-- What a handler answers: the code of its checks, and the table that it was lent, changed where the code is 0x00.
+use mathlib.Core.Path.{_≡_}
+use mathlib.Core.Bool.{Bool, cond, not}
+use mathlib.Core.List.{List, []}
+use Prim.Native.Nat.{ℕ}
+use lib.Dec.{eqb, leb}
+use Rattle.rules.specs.Lists.{any, ask}
+use Rattle.rules.specs.Octets.{octet, octets, joined}
+use Rattle.rules.specs.Names.{ok, invalidArgument, notEnoughResources}
+use Rattle.rules.specs.Tables.{Rec, records, used, room?, matches, addressed, size, Change, none, store, wipe, written}
+use Rattle.rules.specs.declared.Kind.the-variants.{Binds, Groups, Members}
+use Rattle.rules.specs.Exists.{groupExists}
+use Rattle.rules.specs.declared.Code.{Code}
+
+pub record Decided : Type 0 where
+  pub code : Code
+  pub table : List ℕ
+
+abbrev pub decided : Code → List ℕ → Decided
+decided c t = record { code = c; table = t }
+
+-- a change, where the code is 0x00
+unfoldable pub onOk : Code → Change → Change
+onOk c x = cond (eqb (c .0) (ok .0)) x none
+
+-- this code, with this change of a table of records of k octets
+unfoldable pub deciding : ℕ → Code → Change → List ℕ → Decided
+deciding k c x t = decided c (written k (onOk c x) t)
+
+-- an addition: 0x02 where the record is there, then 0xFE if and only if no record is free
+unfoldable pub addition : Rec → List Rec → Code
+addition r t =
+    ask (not (any (matches 0 r) (used t))) invalidArgument
+    (ask (room? t) notEnoughResources
+    ok)
+
+-- a removal: 0x02 where nothing matches
+unfoldable pub removal : ℕ → List ℕ → List Rec → Code
+removal from want t = ask (any (matches from want) (used t)) invalidArgument ok
+
+-- the group of address g, its members and the binds to it are free
+pub record Freed (g : ℕ) (bs gs ms bs' gs' ms' : List ℕ) : Type 0 where
+  pub binds : bs' ≡ written (size Binds) (wipe (matches 5 (octets (joined 1 g)))) bs
+  pub groups : gs' ≡ written (size Groups) (wipe (addressed g)) gs
+  pub members : ms' ≡ written (size Members) (wipe (addressed g)) ms
+
+-- Create Group: 0xFE for a name over 13 octets or no free record
+unfoldable pub creation : List ℕ → List Rec → Code
+creation p t = ask (leb (octet 0 p) 13) notEnoughResources (ask (room? t) notEnoughResources ok)
+
+-- Delete Group has three tables
+pub record Deleted : Type 0 where
+  pub code : Code
+  pub binds : List ℕ
+  pub groups : List ℕ
+  pub members : List ℕ
+
+abbrev pub deleted : Code → List ℕ → List ℕ → List ℕ → Deleted
+deleted c bs gs ms = record { code = c; binds = bs; groups = gs; members = ms }
+
+unfoldable pub deletion : ℕ → List Rec → Code
+deletion g t = ask (groupExists t g) invalidArgument ok
+
+unfoldable pub deleting : ℕ → List ℕ → List ℕ → List ℕ → Deleted
+deleting g bs gs ms =
+    let c : Code = deletion g (records (size Groups) gs) in
+    deleted
+    c
+    (written (size Binds) (onOk c (wipe (matches 5 (octets (joined 1 g))))) bs)
+    (written (size Groups) (onOk c (wipe (addressed g))) gs)
+    (written (size Members) (onOk c (wipe (addressed g))) ms)
