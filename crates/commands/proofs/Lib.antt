@@ -2,3 +2,4 @@
 pub mod Decoded
 pub mod Handled
 pub mod Smallest
+pub mod Performing

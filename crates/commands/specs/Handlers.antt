@@ -1,15 +1,18 @@
 -- What a handler answers: the code of its checks, and the table that it was lent, changed where the code is 0x00.
 use mathlib.Core.Path.{_≡_}
 use mathlib.Core.Bool.{Bool, cond, not}
-use mathlib.Core.List.{List, []}
+use mathlib.Core.List.{List, [], _∷_}
 use Prim.Native.Nat.{ℕ}
 use lib.Dec.{eqb, leb}
-use Rattle.rules.specs.Lists.{any, ask}
+use Rattle.rules.specs.Lists.{any, firstOf, ask}
 use Rattle.rules.specs.Octets.{octet, octets, joined}
 use Rattle.rules.specs.Names.{ok, invalidArgument, notEnoughResources}
 use Rattle.rules.specs.Tables.{Rec, records, used, room?, matches, addressed, size, Change, none, store, wipe, written}
 use Rattle.rules.specs.declared.Kind.the-variants.{Binds, Groups, Members}
+use Rattle.rules.specs.Units.{ordered}
 use Rattle.rules.specs.Exists.{groupExists}
+use Rattle.rules.specs.Sound.{bindFits, memberFits}
+use Rattle.rules.specs.Commands.{membersOf, info}
 use Rattle.rules.specs.declared.Code.{Code}
 
 pub record Decided : Type 0 where
@@ -69,3 +72,21 @@ deleting g bs gs ms =
     (written (size Binds) (onOk c (wipe (matches 5 (octets (joined 1 g))))) bs)
     (written (size Groups) (onOk c (wipe (addressed g))) gs)
     (written (size Members) (onOk c (wipe (addressed g))) ms)
+
+-- Add Bind and Add to Group: the field rules, then the addition
+unfoldable pub bindAddition : List Rec → List Rec → Rec → List Rec → Code
+bindAddition ds gs b t = ask (bindFits ds gs b) invalidArgument (addition b t)
+
+unfoldable pub memberAddition : List Rec → List Rec → Rec → List Rec → Code
+memberAddition ds gs m t = ask (memberFits ds gs m) invalidArgument (addition m t)
+
+-- Create Group's reply: the address behind 0x00
+unfoldable pub createdPayload : Code → ℕ → List ℕ
+createdPayload c g = cond (eqb (c .0) (ok .0)) (ok .0 ∷ octets g) (c .0 ∷ [])
+
+-- Get Group Info's reply
+unfoldable pub infoPayload : ℕ → List Rec → List Rec → List ℕ
+infoPayload g gs ms =
+    cond (groupExists gs g)
+    (info (firstOf [] (addressed g) (used gs)) (ordered (membersOf ms g)))
+    (invalidArgument .0 ∷ [])
