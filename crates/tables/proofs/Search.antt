@@ -5,10 +5,12 @@ use mathlib.Core.List.{List, [], _∷_}
 use Prim.Native.Nat.{ℕ, _+_, _-_, _≤_, _<_}
 use native.Mathlib.Omega.{arith}
 use lib.ListN.{length, take, drop}
-use Rattle.rules.specs.Lists.{_&_, any, keep, firstOf}
+use borrow.Author.Tests.{not-true, not-false}
+use Rattle.rules.specs.Lists.{_&_, any, all, keep, firstOf}
 use Rattle.rules.specs.Tables.{Rec, records, free?, used}
+use Rattle.rules.specs.Sound.{distinct}
 use Rattle.rules.proofs.Records.{records-at, records-end, records-all}
-use Rattle.tables.specs.Search.{passes, foundAt}
+use Rattle.tables.specs.Search.{passes, freeOr, notAgain, foundAt}
 use Rattle.tables.specs.declared.Found.{Found}
 use Rattle.tables.specs.declared.Found.the-variants.{At, Nothing}
 
@@ -17,6 +19,10 @@ use Rattle.tables.specs.declared.Found.the-variants.{At, Nothing}
 pub any-used : (q : Rec → Bool) (r : Rec) (t : List Rec) → any q (used (r ∷ t)) ≡ (passes q r || any q (used t))
 unfolding any used keep passes
 any-used q r t = elim (free? r) as (λ b. any q (cond (not b) (r ∷ used t) (used t)) ≡ ((not b && q r) || any q (used t))) [ true ↦ refl | false ↦ refl ]
+
+all-used : (q : Rec → Bool) (r : Rec) (t : List Rec) → all q (used (r ∷ t)) ≡ (freeOr q r && all q (used t))
+unfolding all used keep freeOr
+all-used q r t = elim (free? r) as (λ b. all q (cond (not b) (r ∷ used t) (used t)) ≡ ((b || q r) && all q (used t))) [ true ↦ refl | false ↦ refl ]
 
 first-used : (q : Rec → Bool) (r : Rec) (t : List Rec) → firstOf [] q (used (r ∷ t)) ≡ cond (passes q r) r (firstOf [] q (used t))
 unfolding firstOf used keep passes
@@ -28,6 +34,26 @@ any-hit q r t e = any-used q r t ∙ rw e
 
 pub any-miss : (q : Rec → Bool) (r : Rec) (t : List Rec) → passes q r ≡ false → any q (used (r ∷ t)) ≡ any q (used t)
 any-miss q r t e = any-used q r t ∙ rw e
+
+-- the loop that asks whether all used records pass, as `if !b` does of the record s: the record r decides, or it makes no difference
+pub all-hit : (q : Rec → Bool) {r s : Rec} {b : Bool} (t : List Rec) → s ≡ r → b ≡ freeOr q s → not b ≡ true → all q (used (r ∷ t)) ≡ false
+all-hit q {r} {s} {b} t e h n = all-used q r t ∙ rw (← e, ← h, not-true b n)
+
+pub all-miss : (q : Rec → Bool) {r s : Rec} {b : Bool} (t : List Rec) → s ≡ r → b ≡ freeOr q s → not b ≡ false → all q (used (r ∷ t)) ≡ all q (used t)
+all-miss q {r} {s} {b} t e h n = all-used q r t ∙ rw (← e, ← h, not-false b n)
+
+-- the same for the loop that asks whether no used record begins as an earlier one does
+distinct-used : (n : ℕ) (r : Rec) (t : List Rec) → distinct n (r ∷ t) ≡ (freeOr (notAgain n t) r && distinct n t)
+unfolding distinct freeOr notAgain
+distinct-used n r t = refl
+
+pub distinct-hit : (n k : ℕ) {r s : Rec} {t u : List ℕ} {b : Bool} → s ≡ r → u ≡ t → b ≡ freeOr (notAgain n (records k u)) s → not b ≡ true
+    → distinct n (r ∷ records k t) ≡ false
+distinct-hit n k {r} {s} {t} {u} {b} e f h m = distinct-used n r (records k t) ∙ rw (← e, ← f, ← h, not-true b m)
+
+pub distinct-miss : (n k : ℕ) {r s : Rec} {t u : List ℕ} {b : Bool} → s ≡ r → u ≡ t → b ≡ freeOr (notAgain n (records k u)) s → not b ≡ false
+    → distinct n (r ∷ records k t) ≡ distinct n (records k t)
+distinct-miss n k {r} {s} {t} {u} {b} e f h m = distinct-used n r (records k t) ∙ rw (← e, ← f, ← h, not-false b m)
 
 -- a record passes two tests: it passes the first, and then the second
 pub passes-both : (p q : Rec → Bool) (r : Rec) → (passes p r && q r) ≡ passes (λ x. p x & q x) r

@@ -1,0 +1,13 @@
+-- `tables::address_fits` meets its contract.
+use mathlib.Core.Path.{refl}
+use Rattle.rules.specs.Lists.{_&_}
+use Rattle.rules.specs.Sound.{addressFits}
+use Rattle.tables.proofs.fields.address_fits.Statement.{statement}
+use Rattle.tables.proofs.fields.address_fits.Tie as tie
+
+returns : tie.Need-returns
+unfolding addressFits _&_
+returns c = refl
+
+pub address-fits-spec : {M : Type 1} → statement M
+address-fits-spec = tie.close (tie.spec returns)
