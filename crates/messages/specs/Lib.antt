@@ -1,0 +1,2 @@
+-- What the contracts of `messages` ask of the fields of a header.
+pub mod Ranges
