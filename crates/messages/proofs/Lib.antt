@@ -2,3 +2,4 @@
 pub mod Reading
 pub mod Replies
 pub mod Copies
+pub mod Once

@@ -6,9 +6,10 @@ use native.Mathlib.Omega.{arith}
 use lib.ListN.{length, take, drop, set, length-append, length-drop, length-set}
 use lib.Seq.{take-all, take-at, drop-at, drop-drop, drop-length, length-take-le, sets, set-append-left}
 use borrow.Rule.Slice.PartMut.{midOf, putMid}
-use Rattle.rules.specs.Octets.{octets, over, flag, number}
+use Rattle.rules.specs.Octets.{over, flag, number}
 use Rattle.rules.specs.Message.{headerLength, fields, header, answering, reply, source, addressType, target, interface}
 use Rattle.rules.specs.declared.Fields.{Fields}
+use Rattle.rules.proofs.RoundTrip.{header-length}
 use Rattle.messages.specs.Ranges.{Ranged}
 
 -- what was read is in range, and so is what answers it
@@ -19,10 +20,6 @@ fields-ranged m = record { source = omega arith; addressType = omega arith; dest
 pub answering-ranged : (f : Fields) (n : ℕ) → Ranged f → Ranged (answering f n)
 unfolding answering
 answering-ranged f n r = record { source = omega arith; addressType = omega arith; destination = r .source; interfaceType = r .interfaceType; uid = r .uid }
-
-pub header-length : (f : Fields) → length (header f) ≡ headerLength
-unfolding header octets
-header-length f = refl
 
 -- `&s[n..]`, as it is lent, is the rest
 pub rest-is : (n : ℕ) (s : List ℕ) → midOf n (length s - n) s ≡ drop n s

@@ -222,6 +222,15 @@ pub fn write_reply(lent: &mut [u8], message: &[u8], payload: &[u8]) -> usize
     HEADER + payload.len()
 }
 
+// The round trip: a reply is written, and reading it gives its fields again.
+pub fn read_back(lent: &mut [u8], message: &[u8], payload: &[u8]) -> Reading
+    requires { ⌜ (headerLength ≤ length (now message)) × (headerLength + length (now payload) ≤ longest) × (headerLength + length (now payload) ≤ length (now lent)) ⌝ }
+    ensures { λ r. ⌜ r ≡ record { outcome = Done 0; fields = answering (fields (now (message .entry))) (length (now (payload .entry))) } ⌝ }
+{
+    let n = write_reply(lent, message, payload);
+    read(&lent[..n])
+}
+
 // Outcome 19: the room, the device and the unit that a copy needs.
 fn copy_fits(message: &[u8], room: &[u8], device: DeviceAddress, unit: u8) -> bool
     ensures { λ r. ⌜ r ≡ copyFits (now (message .entry)) (now (room .entry)) (device .0) unit ⌝ }
