@@ -1,13 +1,13 @@
 -- Laws of copies: what copying answers, by whether the message can be read and the copy fits.
-use mathlib.Core.Path.{_≡_, refl, sym, ap, _∙_}
-use mathlib.Core.Bool.{Bool, true, false}
+use mathlib.Core.Path.{_≡_, sym, _∙_}
+use mathlib.Core.Bool.{true, false}
 use mathlib.Core.List.{List, [], _∷_, _++_}
 use Prim.Native.Nat.{ℕ, _≤_}
 use native.Mathlib.Omega.{arith}
 use lib.ListN.{length}
 use lib.Seq.{sets}
 use borrow.Author.Tests.{leb-true}
-use Rattle.rules.specs.Lists.{ask, _&_}
+use Rattle.rules.specs.Lists.{ask}
 use Rattle.rules.specs.Octets.{octets, over}
 use Rattle.rules.specs.Message.{headerLength, readOutcome, readable}
 use Rattle.rules.specs.Copy.{copied, copyFits, CopyAnswer, copyAnswer, copy}

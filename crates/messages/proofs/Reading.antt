@@ -1,5 +1,5 @@
 -- Laws of reading: when a message can be read, and what then is known of it.
-use mathlib.Core.Path.{_≡_, refl, sym, _∙_}
+use mathlib.Core.Path.{_≡_, refl, _∙_}
 use mathlib.Core.Bool.{Bool, true, false}
 use mathlib.Core.List.{List}
 use Prim.Native.Nat.{ℕ, _≤_}
@@ -7,7 +7,7 @@ use lib.Dec.{eqb}
 use lib.ListN.{length}
 use borrow.Author.Tests.{leb-true, eq-eqb, ne-eqb}
 use Rattle.rules.specs.Lists.{ask, _&_}
-use Rattle.rules.specs.Message.{headerLength, longest, lengthFits, dataLengthFits, typeFits, readOutcome, readable}
+use Rattle.rules.specs.Message.{headerLength, lengthFits, dataLengthFits, typeFits, readOutcome, readable}
 use Rattle.rules.specs.Outcomes.{numberOf}
 use Rattle.rules.specs.declared.Outcome.{Outcome}
 use Rattle.rules.specs.declared.Outcome.the-variants.{Done, WrongLength, WrongDataLength, WrongType}

@@ -25,17 +25,20 @@ answering-ranged f n r = record { source = omega arith; addressType = omega arit
 pub rest-is : (n : ℕ) (s : List ℕ) → midOf n (length s - n) s ≡ drop n s
 rest-is n s = take-all (length s - n) (drop n s) (rw length-drop (omega arith))
 
+-- `&mut s[n..]`, come back as `part`: what stands before it, and the part
+pub rest-put : (n : ℕ) (s part : List ℕ) → n ≤ length s → putMid n (length s - n) s part ≡ take n s ++ part
+rest-put n s part h =
+    let w : n + (length s - n) ≡ length s = omega arith in
+    rw (drop-drop, w, drop-length, append-nil)
+
 -- the part behind n octets was lent, and `new` written over it; then n octets over the front
-pub behind : (n : ℕ) (head new old part : List ℕ) → length head ≡ n → n ≤ length old → part ≡ over new (midOf n (length old - n) old)
+pub behind : (n : ℕ) (head new old part : List ℕ) → length head ≡ n → n ≤ length old → part ≡ over new (drop n old)
     → over head (putMid n (length old - n) old part) ≡ over (head ++ new) old
 unfolding over
-behind n head new old part e l p =
-    let w : n + (length old - n) ≡ length old = omega arith in
-    let z : drop (length old - n) (drop n old) ≡ [] = rw (drop-drop, w, drop-length old) in
-    rw (e, drop-at (take n old) _ n (length-take-le n old l), z, append-nil, p, rest-is n old, append-assoc, length-append, e, drop-drop)
+behind n head new old part e l p = rw (rest-put n old part l, e, drop-at (take n old) part n (length-take-le n old l), p, append-assoc, length-append, e, drop-drop)
 
 -- the same of a reply: the payload p behind the header, then the header
-pub reply-behind : (m p old part : List ℕ) → headerLength ≤ length old → part ≡ over p (midOf headerLength (length old - headerLength) old)
+pub reply-behind : (m p old part : List ℕ) → headerLength ≤ length old → part ≡ over p (drop headerLength old)
     → over (header (answering (fields m) (length p))) (putMid headerLength (length old - headerLength) old part) ≡ over (reply m p) old
 unfolding reply
 reply-behind m p old part l e = behind headerLength (header (answering (fields m) (length p))) p old part (header-length _) l e

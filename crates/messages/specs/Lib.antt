@@ -1,2 +1,2 @@
--- What the contracts of `messages` ask of the fields of a header.
+-- The definitions that the contracts of `messages` cite beside those of `rules`.
 pub mod Ranges

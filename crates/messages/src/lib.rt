@@ -10,15 +10,20 @@ ghost use mathlib.Core.List.{[], _∷_, _++_};
 ghost use Prim.Native.Nat.{_+_, _≤_};
 ghost use lib.ListN.{length};
 ghost use Rattle.rules.specs.Octets.{octets, over};
-ghost use Rattle.rules.specs.Message.{headerLength, longest, dataLength, payload, fields, destination, response, lengthFits, dataLengthFits, typeFits, readOutcome, reading, header, answering, reply};
-ghost use Rattle.rules.specs.declared.Outcome.the-variants.{Done};
+ghost use Rattle.rules.specs.Message.{headerLength, longest, dataLength, payload, fields, destination, response};
+ghost use Rattle.rules.specs.Message.{lengthFits, dataLengthFits, typeFits, readOutcome, reading};
+ghost use Rattle.rules.specs.Message.{header, answering, reply};
 ghost use Rattle.rules.specs.Copy.{copied, copyFits, copyAnswer, copy};
-ghost use Rattle.messages.specs.Ranges.{Ranged};
+ghost use Rattle.rules.specs.declared.Outcome.the-variants.{Done};
+ghost use Rattle.messages.specs.Ranges.{Ranged, Fitting};
 
 // The octets before the payload, and the most that a message has.
 const HEADER: usize = 15;
 
 const LONGEST: usize = 500;
+
+// Where the payload begins, as the paper counts octets.
+const PAYLOAD: u16 = 16;
 
 // The highest device address, and the unit that is no unit's.
 const HIGHEST: u16 = 0x7FFE;
@@ -60,7 +65,7 @@ pub fn fields(message: &[u8]) -> Fields
         uid: octets::number(interface),
         member: message[12],
         data_length: data_length(message),
-        payload: 16,
+        payload: PAYLOAD,
     }
 }
 
@@ -172,7 +177,7 @@ pub fn answering(request: Fields, n: u16) -> Fields
         uid: request.uid,
         member: request.member,
         data_length: n,
-        payload: 16,
+        payload: PAYLOAD,
     }
 }
 
@@ -214,8 +219,9 @@ pub fn write_header(lent: &mut [u8], request: Fields, n: usize)
 
 // Writes the whole reply to a message: the part behind the header is lent for the payload, then the header goes before it.
 pub fn write_reply(lent: &mut [u8], message: &[u8], payload: &[u8]) -> usize
-    requires { ⌜ (headerLength ≤ length (now message)) × (headerLength + length (now payload) ≤ longest) × (headerLength + length (now payload) ≤ length (now lent)) ⌝ }
-    ensures { λ r. ⌜ (r ≡ headerLength + length (now (payload .entry))) × (now (lent .exit) ≡ over (reply (now (message .entry)) (now (payload .entry))) (now (lent .entry))) ⌝ }
+    requires { ⌜ Fitting (now message) (now payload) (now lent) ⌝ }
+    ensures length { λ r. ⌜ r ≡ headerLength + length (now (payload .entry)) ⌝ }
+    ensures octets { λ r. ⌜ now (lent .exit) ≡ over (reply (now (message .entry)) (now (payload .entry))) (now (lent .entry)) ⌝ }
 {
     octets::put(&mut lent[HEADER..], payload);
     write_header(lent, fields(message), payload.len());
@@ -224,8 +230,9 @@ pub fn write_reply(lent: &mut [u8], message: &[u8], payload: &[u8]) -> usize
 
 // The round trip: a reply is written, and reading it gives its fields again.
 pub fn read_back(lent: &mut [u8], message: &[u8], payload: &[u8]) -> Reading
-    requires { ⌜ (headerLength ≤ length (now message)) × (headerLength + length (now payload) ≤ longest) × (headerLength + length (now payload) ≤ length (now lent)) ⌝ }
-    ensures { λ r. ⌜ r ≡ record { outcome = Done 0; fields = answering (fields (now (message .entry))) (length (now (payload .entry))) } ⌝ }
+    requires { ⌜ Fitting (now message) (now payload) (now lent) ⌝ }
+    ensures reading { λ r. ⌜ r ≡ record { outcome = Done 0; fields = answering (fields (now (message .entry))) (length (now (payload .entry))) } ⌝ }
+    ensures octets { λ r. ⌜ now (lent .exit) ≡ over (reply (now (message .entry)) (now (payload .entry))) (now (lent .entry)) ⌝ }
 {
     let n = write_reply(lent, message, payload);
     read(&lent[..n])

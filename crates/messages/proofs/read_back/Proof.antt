@@ -17,10 +17,12 @@ returns c =
     let w = c .before .before .before .before in
     let start = w .before .before .before .before .before in
     let m = start .args .message .now in
-    let p = start .args .payload .now in
-    c .read .ensures
-    ∙ rw (w .write-reply .ensures .1, written (reply m p) (start .args .lent .now) _ (w .write-reply .ensures .0 ∙ sym (reply-length m p)))
-    (reply-read m p (start .pre .1))
+    let p = start .args .payload .now in (
+      c .read .ensures
+          ∙ rw (w .write-reply .ensures .1, written (reply m p) (start .args .lent .now) _ (w .write-reply .ensures .0 ∙ sym (reply-length m p)))
+          (reply-read m p (start .pre .most)),
+      w .write-reply .ensures .1,
+    )
 
 pub read-back-spec : {M : Type 1} → statement M
 read-back-spec = tie.close (tie.spec (λ c κs. search needs) (λ c. search needs) slice-aggregate-read (λ c κs. search needs) (λ c. search needs) returns)
