@@ -4,3 +4,4 @@ pub mod Records
 pub mod Apart
 pub mod Whole
 pub mod Rows
+pub mod RoundTrip

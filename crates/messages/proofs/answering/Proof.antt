@@ -1,0 +1,12 @@
+-- `messages::answering` meets its contract. The fields are the definition's.
+use mathlib.Core.Path.{refl}
+use Rattle.rules.specs.Message.{answering}
+use Rattle.messages.proofs.answering.Statement.{statement}
+use Rattle.messages.proofs.answering.Tie as tie
+
+returns : tie.Need-returns
+unfolding answering
+returns c = refl
+
+pub answering-spec : {M : Type 1} → statement M
+answering-spec = tie.close (tie.spec returns)

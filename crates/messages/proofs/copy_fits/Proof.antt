@@ -1,0 +1,13 @@
+-- `messages::copy_fits` meets its contract. The three tests are the definition's.
+use mathlib.Core.Path.{refl}
+use Rattle.rules.specs.Lists.{_&_}
+use Rattle.rules.specs.Copy.{copyFits}
+use Rattle.messages.proofs.copy_fits.Statement.{statement}
+use Rattle.messages.proofs.copy_fits.Tie as tie
+
+returns : tie.Need-returns
+unfolding _&_ copyFits
+returns c = refl
+
+pub copy-fits-spec : {M : Type 1} → statement M
+copy-fits-spec = tie.close (tie.spec returns)

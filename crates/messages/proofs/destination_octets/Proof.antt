@@ -1,0 +1,12 @@
+-- `messages::destination_octets` meets its contract. The octets are the definition's.
+use borrow.Author.Needs.{needs}
+use Rattle.rules.specs.Octets.{octets}
+use Rattle.messages.proofs.destination_octets.Statement.{statement}
+use Rattle.messages.proofs.destination_octets.Tie as tie
+
+returns : tie.Need-returns
+unfolding octets
+returns c = cc
+
+pub destination-octets-spec : {M : Type 1} → statement M
+destination-octets-spec = tie.close (tie.spec (λ c κs. search needs) (λ c κs. search needs) returns)

@@ -1,0 +1,113 @@
+-- What was written is read back: the octets of a header and its payload give the fields and the payload again (document 01, The message).
+use mathlib.Core.Path.{_≡_, refl, ap, _∙_}
+use mathlib.Core.Bool.{true}
+use mathlib.Core.List.{List, _++_}
+use Prim.Native.Nat.{ℕ, _+_, _-_, _*_, _/_, _%_, _≤_, _<_}
+use native.Mathlib.Omega.{arith}
+use lib.ListN.{length, length-append}
+use lib.Seq.{drop-at}
+use borrow.Author.Tests.{le-leb, eq-eqb}
+use Rattle.rules.specs.Octets.{word, octets, flag, number, joined}
+use Rattle.rules.specs.Message.{source, sourceUnit, addressType, target, targetUnit, appRef, kind, interface, member, dataLength, headerLength, longest, payload, fields, lengthFits, dataLengthFits, typeFits, readOutcome, readable, reading, header, answering, reply}
+use Rattle.rules.specs.declared.Fields.{Fields}
+use Rattle.rules.specs.declared.Outcome.the-variants.{Done}
+use Rattle.rules.proofs.Lists.{join, ask-pass}
+
+-- the fields that a message with this payload can have
+pub record Sendable (f : Fields) (p : List ℕ) : Type 0 where
+  pub source : f .source .0 < 32768
+  pub addressType : f .«address_type» < 2
+  pub destination : f .destination < 32768
+  pub least : 0x01 ≤ f .kind
+  pub most : f .kind ≤ 0x10
+  pub interfaceType : f .«interface_type» < 2
+  pub uid : f .uid < 32768
+  pub its-length : f .«data_length» ≡ length p
+  pub room : headerLength + length p ≤ longest
+  pub place : f .payload ≡ headerLength + 1
+
+-- a word is read from its octets again, whole or as flag and number
+number-again : (n : ℕ) → n < 32768 → (n / 256 * 256 + n % 256) % 32768 ≡ n
+number-again n h = omega arith
+
+nine-again : (n : ℕ) → n < 512 → (n / 256 * 256 + n % 256) % 512 ≡ n
+nine-again n h = omega arith
+
+module _ (f n : ℕ) (h : f < 2) (l : n < 32768) where
+  flag-part : ((f * 32768 + n) / 256 * 256 + (f * 32768 + n) % 256) / 32768 % 2 ≡ f
+  flag-part = omega arith
+
+  number-part : ((f * 32768 + n) / 256 * 256 + (f * 32768 + n) % 256) % 32768 ≡ n
+  number-part = omega arith
+
+pub header-length : (f : Fields) → length (header f) ≡ headerLength
+unfolding octets header
+header-length f = refl
+
+module _ (f : Fields) (p : List ℕ) where
+  pub payload-again : payload (header f ++ p) ≡ p
+  unfolding payload
+  payload-again = drop-at (header f) p headerLength (header-length f)
+
+  whole-length : length (header f ++ p) ≡ headerLength + length p
+  whole-length = length-append (header f) p ∙ rw header-length
+
+module _ (f : Fields) (p : List ℕ) (s : Sendable f p) where
+  pub fields-again : fields (header f ++ p) ≡ f
+  unfolding word octets flag number joined source sourceUnit addressType target targetUnit appRef kind interface member dataLength fields header
+  fields-again =
+      let small : f .«data_length» < 512 = omega arith in
+      let to = f .«address_type» in
+      let role = f .«interface_type» in
+      rw (number-again (f .source .0) (s .source), flag-part to (f .destination) (s .addressType) (s .destination), number-part to (f .destination) (s .addressType) (s .destination), flag-part role (f .uid) (s .interfaceType) (s .uid), number-part role (f .uid) (s .interfaceType) (s .uid), nine-again (f .«data_length») small, ← s .place)
+
+  length-right : lengthFits (header f ++ p) ≡ true
+  unfolding lengthFits
+  length-right =
+      let n = whole-length f p in
+      join (le-leb headerLength (length (header f ++ p)) (omega arith)) (le-leb (length (header f ++ p)) longest (omega arith))
+
+  data-length-right : dataLengthFits (header f ++ p) ≡ true
+  unfolding dataLengthFits fields
+  data-length-right =
+      let n = whole-length f p in
+      let d : dataLength (header f ++ p) ≡ f .«data_length» = ap (λ (g : Fields). g .«data_length») fields-again in
+      eq-eqb (dataLength (header f ++ p)) (length (header f ++ p) - headerLength) (omega arith)
+
+  type-right : typeFits (header f ++ p) ≡ true
+  unfolding octets kind typeFits header
+  type-right = join (le-leb 0x01 (f .kind) (s .least)) (le-leb (f .kind) 0x10 (s .most))
+
+  pub read-again : reading (header f ++ p) ≡ record { outcome = Done 0; fields = f }
+  unfolding readOutcome readable reading
+  read-again = rw (join (join length-right data-length-right) type-right, ask-pass _ _ length-right, ask-pass _ _ data-length-right, ask-pass _ _ type-right, fields-again)
+
+-- the reply to any message, with any payload that fits
+module _ (m p : List ℕ) where
+  reply-sendable : headerLength + length p ≤ longest → Sendable (answering (fields m) (length p)) p
+  unfolding flag number source interface fields answering
+  reply-sendable h =
+      record {
+        source = omega arith;
+        addressType = omega arith;
+        destination = omega arith;
+        least = omega arith;
+        most = omega arith;
+        interfaceType = omega arith;
+        uid = omega arith;
+        its-length = refl;
+        room = h;
+        place = refl;
+      }
+
+  pub reply-read : headerLength + length p ≤ longest → reading (reply m p) ≡ record { outcome = Done 0; fields = answering (fields m) (length p) }
+  unfolding reply
+  reply-read h = read-again (answering (fields m) (length p)) p (reply-sendable h)
+
+  pub reply-length : length (reply m p) ≡ headerLength + length p
+  unfolding reply
+  reply-length = whole-length (answering (fields m) (length p)) p
+
+  pub reply-payload : payload (reply m p) ≡ p
+  unfolding reply
+  reply-payload = payload-again (answering (fields m) (length p)) p
