@@ -2,3 +2,9 @@
 pub mod Lists
 pub mod Whole
 pub mod Rows
+pub mod Words
+pub mod Changes
+pub mod Distinct
+pub mod Fresh
+pub mod Order
+pub mod Kept

@@ -1,0 +1,78 @@
+-- Runs of octets and the numbers that they make: on a record of octets, a test by octets and one by number are the same test.
+use mathlib.Core.Path.{_≡_, refl, sym, ap, _∙_}
+use mathlib.Core.Bool.{Bool, true, false, false≢true, cond, not, _&&_, _||_}
+use mathlib.Core.List.{List, [], _∷_, _++_}
+use Prim.Native.Nat.{ℕ, zero, suc, _+_, _*_, _/_, _%_, _≤_, _<_}
+use native.Mathlib.Numerals.{add-one}
+use native.Mathlib.Omega.{arith}
+use borrow.Author.Tests.{leb-true, le-leb, eqb-true, eq-eqb, ne-eqb, not-true}
+use lib.Dec.{eqb, leb}
+use lib.ListN.{length, getD, take, drop}
+use lib.Seq.{drop-cons}
+use Rattle.rules.specs.Lists.{all, _&_}
+use Rattle.rules.specs.Octets.{octet, word, octets, starts, octetString, flag, number, joined, ignoreTop}
+use Rattle.rules.specs.Tables.{Rec, matches, addressed}
+use Rattle.rules.specs.Sound.{toGroup, boundTo}
+use Rattle.rules.specs.Commands.{groupNamed}
+use Rattle.rules.proofs.Lists.{and-parts, split, join, same-truth}
+
+-- a record of k octets
+unfoldable pub shaped : ℕ → Rec → Bool
+shaped k r = eqb (length r) k & octetString r
+
+pub octet-small : (s : List ℕ) (i : ℕ) → octetString s ≡ true → octet i s ≤ 255
+unfolding octetString all
+octet-small [] i h = omega arith
+octet-small (o ∷ s) zero h = leb-true o 255 (and-parts (leb o 255) (all (λ o. leb o 255) s) h .0)
+octet-small (o ∷ s) (suc i) h = octet-small s i (and-parts (leb o 255) (all (λ o. leb o 255) s) h .1)
+
+-- two octets against the two of a word
+two : (a b w : ℕ) → b ≤ 255 → (eqb a (w / 256) && (eqb b (w % 256) && true)) ≡ eqb (a * 256 + b) w
+two a b w h = same-truth _ _ forth back
+  where
+    forth : (eqb a (w / 256) && (eqb b (w % 256) && true)) ≡ true → eqb (a * 256 + b) w ≡ true
+    forth e =
+        let x = and-parts (eqb a (w / 256)) (eqb b (w % 256) && true) e in
+        let y = and-parts (eqb b (w % 256)) true x.1 in
+        let p = eqb-true a (w / 256) x.0 in
+        let q = eqb-true b (w % 256) y.0 in
+        eq-eqb (a * 256 + b) w (omega arith)
+
+    back : eqb (a * 256 + b) w ≡ true → (eqb a (w / 256) && (eqb b (w % 256) && true)) ≡ true
+    back e =
+        let p = eqb-true (a * 256 + b) w e in
+        rw (eq-eqb a (w / 256) (omega arith), eq-eqb b (w % 256) (omega arith))
+
+-- the run of a word's octets at place i is the word at place i
+pub matches-word : (k i w : ℕ) (r : Rec) → i + 2 ≤ k → shaped k r ≡ true → matches i (octets w) r ≡ eqb (word i r) w
+unfolding matches octets word shaped
+matches-word k i w r l h =
+    let s = split h in
+    let n = eqb-true (length r) k s.0 in
+    let i₁ : i < length r = omega arith in
+    let i₂ : suc i < length r = omega arith in
+    rw (add-one i, drop-cons r i 0 i₁, drop-cons r (suc i) 0 i₂) (two (octet i r) (octet (suc i) r) w (octet-small r (suc i) s.1))
+
+pub addressed-word : (k w : ℕ) (r : Rec) → 2 ≤ k → shaped k r ≡ true → addressed w r ≡ eqb (word 0 r) w
+unfolding addressed
+addressed-word k w r l h = matches-word k 0 w r l h
+
+-- one way needs no octets: a record at an address begins with that word
+pub word-of : (a : ℕ) (r : Rec) → addressed a r ≡ true → word 0 r ≡ a
+unfolding addressed matches octets word
+word-of a [] h = absurd (false≢true h)
+word-of a (x ∷ []) h = absurd (false≢true (and-parts (eqb x (a / 256)) false h .1))
+word-of a (x ∷ y ∷ r) h =
+    let e = and-parts (eqb x (a / 256)) (eqb y (a % 256) && true) h in
+    let f = and-parts (eqb y (a % 256)) true e.1 in
+    let p = eqb-true x (a / 256) e.0 in
+    let q = eqb-true y (a % 256) f.0 in
+    omega arith
+
+-- a record at one address is not at another
+pub apart : (a d : ℕ) (r : Rec) → (a ≡ d → ⊥) → addressed a r ≡ true → not (addressed d r) ≡ true
+apart a d r n e = step (addressed d r) refl
+  where
+    step : (b : Bool) → addressed d r ≡ b → not b ≡ true
+    step true f = absurd (n (sym (word-of a r e) ∙ word-of d r f))
+    step false f = refl
