@@ -8,3 +8,9 @@ pub mod Distinct
 pub mod Fresh
 pub mod Order
 pub mod Kept
+pub mod Standing
+pub mod Stored
+pub mod Served
+pub mod Hosted
+pub mod Steps
+pub mod Run

@@ -19,6 +19,10 @@ pub and-parts : (a b : Bool) → (a && b) ≡ true → (a ≡ true) × (b ≡ tr
 and-parts true b h = (refl, h)
 and-parts false b h = absurd (false≢true h)
 
+pub never : (b : Bool) → not b ≡ true → b ≡ true → ⊥
+never true h g = false≢true h
+never false h g = false≢true g
+
 pub or-parts : (a b : Bool) → (a || b) ≡ false → (a ≡ false) × (b ≡ false)
 or-parts true b h = absurd (false≢true (sym h))
 or-parts false b h = (refl, h)
@@ -205,6 +209,16 @@ module _ {A : Type 0} where
       step : (b : Bool) → (b || any p l) ≡ true → P x ≡ true → (any p l ≡ true → P (firstOf none p l) ≡ true) → P (cond b x (firstOf none p l)) ≡ true
       step true h e ih = e
       step false h e ih = ih h
+
+  -- from one that passes, where all have something
+  pub any-with : {C : Type 0} (p P : A → Bool) → ((x : A) → p x ≡ true → P x ≡ true → C) → (l : List A) → any p l ≡ true → all P l ≡ true → C
+  unfolding any all
+  any-with p P f [] h g = absurd (false≢true h)
+  any-with {C} p P f (x ∷ l) h g = let a = and-parts (P x) (all P l) g in step (p x) refl h (λ k. any-with p P f l k a.1)
+    where
+      step : (b : Bool) → p x ≡ b → (b || any p l) ≡ true → (any p l ≡ true → C) → C
+      step true e h ih = f x e (and-parts (P x) (all P l) g .0)
+      step false e h ih = ih h
 
 module _ {A B : Type 0} where
   pub any-flatMap : (p : B → Bool) (f : A → List B) (l : List A) → any p (flatMap f l) ≡ any (λ x. any p (f x)) l

@@ -5,7 +5,7 @@ use mathlib.Core.List.{List, [], _∷_, _++_}
 use Prim.Native.Nat.{ℕ, zero, suc, _+_, _*_, _/_, _%_, _≤_, _<_}
 use native.Mathlib.Numerals.{add-one}
 use native.Mathlib.Omega.{arith}
-use borrow.Author.Tests.{leb-true, le-leb, eqb-true, eq-eqb, ne-eqb, not-true}
+use borrow.Author.Tests.{leb-true, le-leb, eqb-true, eqb-false, eq-eqb, ne-eqb, not-true}
 use lib.Dec.{eqb, leb}
 use lib.ListN.{length, getD, take, drop}
 use lib.Seq.{drop-cons}
@@ -76,3 +76,48 @@ apart a d r n e = step (addressed d r) refl
     step : (b : Bool) → addressed d r ≡ b → not b ≡ true
     step true f = absurd (n (sym (word-of a r e) ∙ word-of d r f))
     step false f = refl
+
+-- The destination of a bind, octets 6-7, with its flag (document 01, Tables)
+
+module _ (n w : ℕ) (small : n < 32768) (word-small : w < 65536) where
+  flag-set : eqb w (joined 1 n) ≡ (eqb (flag w) 1 & eqb (number w) n)
+  unfolding joined flag number _&_
+  flag-set = same-truth _ _ forth back
+    where
+      forth : eqb w (1 * 32768 + n) ≡ true → (eqb (w / 32768 % 2) 1 && eqb (w % 32768) n) ≡ true
+      forth e = let p = eqb-true w (1 * 32768 + n) e in rw (eq-eqb (w / 32768 % 2) 1 (omega arith), eq-eqb (w % 32768) n (omega arith))
+
+      back : (eqb (w / 32768 % 2) 1 && eqb (w % 32768) n) ≡ true → eqb w (1 * 32768 + n) ≡ true
+      back e =
+          let a = and-parts (eqb (w / 32768 % 2) 1) (eqb (w % 32768) n) e in
+          let p = eqb-true (w / 32768 % 2) 1 a.0 in
+          let q = eqb-true (w % 32768) n a.1 in
+          eq-eqb w (1 * 32768 + n) (omega arith)
+
+  flag-clear : eqb w n ≡ (not (eqb (flag w) 1) & eqb (number w) n)
+  unfolding flag number _&_
+  flag-clear = same-truth _ _ forth back
+    where
+      forth : eqb w n ≡ true → (not (eqb (w / 32768 % 2) 1) && eqb (w % 32768) n) ≡ true
+      forth e = let p = eqb-true w n e in rw (ne-eqb (w / 32768 % 2) 1 (λ z. omega arith), eq-eqb (w % 32768) n (omega arith))
+
+      back : (not (eqb (w / 32768 % 2) 1) && eqb (w % 32768) n) ≡ true → eqb w n ≡ true
+      back e =
+          let a = and-parts (not (eqb (w / 32768 % 2) 1)) (eqb (w % 32768) n) e in
+          let p = eqb-false (w / 32768 % 2) 1 (not-true (eqb (w / 32768 % 2) 1) a.0) in
+          let q = eqb-true (w % 32768) n a.1 in
+          eq-eqb w n (omega (arith, p))
+
+pub word-below : (k i : ℕ) (r : Rec) → shaped k r ≡ true → word i r < 65536
+unfolding shaped word
+word-below k i r h = let s = split h .1 in omega (arith, octet-small r i s, octet-small r (i + 1) s)
+
+-- the run that Delete Group looks for is a bind to that group
+pub to-group : (g : ℕ) (b : Rec) → g < 32768 → shaped 8 b ≡ true → matches 5 (octets (joined 1 g)) b ≡ (toGroup b & eqb (boundTo b) g)
+unfolding toGroup boundTo
+to-group g b l h = matches-word 8 5 (joined 1 g) b (omega arith) h ∙ flag-set g (word 5 b) l (word-below 8 5 b h)
+
+-- the run that Release looks for is a bind to that device, and to no group of its number
+pub to-device : (d : ℕ) (b : Rec) → d < 32768 → shaped 8 b ≡ true → matches 5 (octets d) b ≡ (not (toGroup b) & eqb (boundTo b) d)
+unfolding toGroup boundTo
+to-device d b l h = matches-word 8 5 d b (omega arith) h ∙ flag-clear d (word 5 b) l (word-below 8 5 b h)
