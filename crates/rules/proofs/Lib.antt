@@ -14,3 +14,7 @@ pub mod Served
 pub mod Hosted
 pub mod Steps
 pub mod Run
+pub mod Links
+pub mod Counts
+pub mod Condition3
+pub mod Stands

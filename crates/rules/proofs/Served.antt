@@ -172,6 +172,11 @@ module _ (L : Lent) (p : List ℕ) (o : octetString p ≡ true) where
   unfolding judge
   ok-granted s k S j = let a = pass unauthorized j in let b = pass invalid a.1 in ok-command k S b.0 b.1
 
+-- Get Group Info is answered 0x00 only of a group that exists
+pub info-granted : (T : Tables) (s : ℕ) (p : List ℕ) → judge T s GetGroupInfo p ≡ ok → groupExists (T .groups) (groupNamed p) ≡ true
+unfolding judge verdict
+info-granted T s p j = pass invalid (pass invalid (pass unauthorized j .1) .1) .0
+
 -- What a call does is what the history says of it
 
 pub record Told (x : Effect) (d b m : Entry) : Type 0 where
