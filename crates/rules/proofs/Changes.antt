@@ -1,15 +1,15 @@
 -- Laws of the tables: what an addition and a removal do to the used records, and that the octets written read back as the records changed.
 use mathlib.Core.Path.{_≡_, refl, sym, ap, _∙_}
 use mathlib.Core.Bool.{Bool, true, false, false≢true, cond, not, _&&_, _||_}
-use mathlib.Core.List.{List, [], _∷_, _++_, map}
-use Prim.Native.Nat.{ℕ, zero, suc, _+_, _*_, _/_, _%_, _≤_, _<_}
+use mathlib.Core.List.{List, [], _∷_, map}
+use Prim.Native.Nat.{ℕ, zero, suc, _*_, _/_, _%_, _≤_, _<_}
 use native.Mathlib.Nat.{div-add-mod', div-mul-le-self, mul-div-cancel, zero-mul}
 use native.Mathlib.Omega.{arith}
 use borrow.Author.Tests.{eqb-true, eq-eqb}
-use lib.Dec.{eqb, leb}
+use lib.Dec.{leb}
 use lib.ListN.{length, take, drop, length-map, length-append, length-drop}
 use lib.Seq.{take-at, drop-at, length-take-le}
-use Rattle.rules.specs.Lists.{tick, count, any, all, keep}
+use Rattle.rules.specs.Lists.{tick, count, any, all}
 use Rattle.rules.specs.Octets.{octetString}
 use Rattle.rules.specs.Tables.{Rec, cut, records, bytes, free?, blank, used, room?, put, clear, Change, none, store, wipe, change, written}
 use Rattle.rules.proofs.Lists.{some?, none?, and-parts, split, join, count-keep, count-same, any-count, all-count, all-weaken, all-keep, all-append, all-take, all-drop}

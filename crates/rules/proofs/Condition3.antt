@@ -1,13 +1,12 @@
 -- Condition 3: from free tables of sizes allowed, after any run of calls, refused ones included, a well-formed request to the bind address goes to
 -- exactly the units linked to its sender by history, and Get Group Info counts the members that stand by history.
 use mathlib.Core.Path.{_≡_, refl, sym, ap, _∙_}
-use mathlib.Core.Bool.{Bool, true, false, false≢true, cond, not, _&&_, _||_}
-use mathlib.Core.List.{List, [], _∷_, _++_}
-use Prim.Native.Nat.{ℕ, _+_, _*_, _/_}
+use mathlib.Core.Bool.{true, false≢true}
+use mathlib.Core.List.{List, _++_}
+use Prim.Native.Nat.{ℕ, _+_}
 use borrow.Author.Tests.{eqb-true}
-use lib.Dec.{eqb, leb}
 use lib.ListN.{length, drop}
-use Rattle.rules.specs.Lists.{all, ask, _&_}
+use Rattle.rules.specs.Lists.{ask, _&_}
 use Rattle.rules.specs.Octets.{octet, word, octets, over}
 use Rattle.rules.specs.Names.{code, ok}
 use Rattle.rules.specs.Message.{source, sourceUnit, payload, header, reply, headerLength}
@@ -15,12 +14,11 @@ use Rattle.rules.specs.Tables.{Lent, tables}
 use Rattle.rules.specs.Exists.{unitExists}
 use Rattle.rules.specs.Commands.{command, groupNamed, judge, replyPayload, granting, groupInfo}
 use Rattle.rules.specs.Recipients.{recipients}
-use Rattle.rules.specs.Calls.{roomy, many, wayTo, way, Answer, served, forwarded, follow, message}
-use Rattle.rules.specs.History.{Call, sends, Said, said, after, Event, history, octetsOnly, granted, members, counted, Request, Exactly, memberCount, freeTables, Holds, Condition3}
+use Rattle.rules.specs.Calls.{roomy, wayTo, way, Answer, served, forwarded, follow, message}
+use Rattle.rules.specs.History.{sends, said, after, Event, history, granted, members, counted, Request, Exactly, memberCount, Condition3}
 use Rattle.rules.specs.declared.Command.the-variants.{GetGroupInfo}
 use Rattle.rules.specs.declared.Destination.the-variants.{Binds}
 use Rattle.rules.specs.declared.Kind.the-variants.{Binds as bind-table, Members}
-use Rattle.rules.proofs.Kept.{Sane}
 use Rattle.rules.proofs.Standing.{Agree}
 use Rattle.rules.proofs.Served.{info-granted}
 use Rattle.rules.proofs.Steps.{grantedBy, Answered, refused, handled, answered, served-granted}

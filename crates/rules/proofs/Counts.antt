@@ -1,27 +1,26 @@
 -- The number of members that Get Group Info gives (document 01, Commands and codes): each member is one unit, so none is lost to the order.
-use mathlib.Core.Path.{_≡_, refl, sym, ap, _∙_}
-use mathlib.Core.Bool.{Bool, true, false, false≢true, cond, not, _&&_, _||_}
+use mathlib.Core.Path.{_≡_, refl, sym, _∙_}
+use mathlib.Core.Bool.{Bool, true, false, cond, not, _&&_, _||_}
 use mathlib.Core.List.{List, [], _∷_, _++_, map, append-assoc}
 use Prim.Native.Nat.{ℕ, zero, suc, _+_, _*_, _/_, _%_, _≤_, _<_}
 use native.Mathlib.Omega.{arith}
 use borrow.Author.Tests.{leb-true, eqb-true, eq-eqb, not-true}
-use lib.Dec.{eqb, leb}
+use lib.Dec.{eqb}
 use lib.ListN.{length, getD, take, drop, length-take, length-drop, length-map}
 use lib.Seq.{getD-append-add, ext-getD}
-use Rattle.rules.specs.Lists.{count, any, all, keep, has, firstOf, _&_}
+use Rattle.rules.specs.Lists.{count, any, all, keep, has, firstOf}
 use Rattle.rules.specs.Octets.{octet, word, octets, starts}
 use Rattle.rules.specs.Units.{unitNumber, unitAt, unitOctets, ordered}
-use Rattle.rules.specs.Tables.{Rec, free?, used, matches, addressed, size, Lent, Tables, tables}
+use Rattle.rules.specs.Tables.{Rec, free?, used, matches, addressed, Lent, tables}
 use Rattle.rules.specs.Exists.{groupExists}
 use Rattle.rules.specs.Sound.{groupFits, fits, distinct, soundTable}
 use Rattle.rules.specs.Commands.{membersOf, info, groupInfo}
-use Rattle.rules.specs.declared.Kind.{Kind}
-use Rattle.rules.specs.declared.Kind.the-variants.{Devices, Binds, Groups, Members}
+use Rattle.rules.specs.declared.Kind.the-variants.{Groups, Members}
 use Rattle.rules.proofs.Lists.{and-parts, split, any-map, any-keep, none-weaken, count-alike, length-kept, first-passes}
 use Rattle.rules.proofs.Words.{shaped, octet-small, addressed-word, word-of}
 use Rattle.rules.proofs.Changes.{all-used, shaped-records}
 use Rattle.rules.proofs.Order.{eachOnce, length-ordered}
-use Rattle.rules.proofs.Kept.{lentOf, tableOf, sound-at, Sane}
+use Rattle.rules.proofs.Kept.{tableOf, sound-at, Sane}
 
 -- Two members of a group are two units
 

@@ -1,9 +1,8 @@
 -- "no address is there twice in devices or groups, no used record twice in binds or members" (document 01, Tables) is kept by every change.
-use mathlib.Core.Path.{_≡_, refl, sym, ap, _∙_}
-use mathlib.Core.Bool.{Bool, true, false, false≢true, cond, not, _&&_, _||_}
+use mathlib.Core.Path.{_≡_, refl, sym, _∙_}
+use mathlib.Core.Bool.{Bool, true, false, false≢true, cond, not, _||_}
 use mathlib.Core.List.{List, [], _∷_}
-use Prim.Native.Nat.{ℕ, zero, suc, _≤_}
-use native.Mathlib.Nat.{le-of-suc-le-suc}
+use Prim.Native.Nat.{ℕ, zero, suc}
 use native.Mathlib.Omega.{arith}
 use borrow.Author.Tests.{eqb-true, eq-eqb, not-true}
 use lib.Dec.{eqb}
@@ -12,7 +11,7 @@ use Rattle.rules.specs.Lists.{any, all, keep}
 use Rattle.rules.specs.Octets.{starts}
 use Rattle.rules.specs.Tables.{Rec, free?, blank, used, room?, matches, put, clear, Change, none, store, wipe, change}
 use Rattle.rules.specs.Sound.{distinct}
-use Rattle.rules.proofs.Lists.{and-parts, or-parts, split, same-truth, any-count, none-weaken, all-any}
+use Rattle.rules.proofs.Lists.{and-parts, or-parts, split, same-truth, none-weaken, all-any}
 use Rattle.rules.proofs.Words.{shaped}
 use Rattle.rules.proofs.Changes.{Room, New, free-blank, any-put, any-clear}
 

@@ -1,10 +1,10 @@
 -- "The address is the smallest from 0x0001 not in use" (document 01, Commands and codes): it is not in use, for there are more candidates than records.
-use mathlib.Core.Path.{_≡_, refl, sym, ap, _∙_}
+use mathlib.Core.Path.{_≡_, refl, sym, _∙_}
 use mathlib.Core.Bool.{Bool, true, false, false≢true, cond, not, _&&_}
 use mathlib.Core.List.{List}
 use Prim.Native.Nat.{ℕ, zero, suc, _+_, _≤_, _<_}
 use native.Mathlib.Omega.{arith}
-use borrow.Author.Tests.{leb-true, le-leb, ltb-true, lt-ltb}
+use borrow.Author.Tests.{le-leb, ltb-true, lt-ltb}
 use lib.Dec.{leb, ltb}
 use lib.ListN.{length}
 use Rattle.rules.specs.Lists.{count, any}
@@ -71,11 +71,11 @@ module _ (inUse : ℕ → Bool) where
 
 pub new-low : (gs : List Rec) → 1 ≤ newGroup gs
 unfolding newGroup
-new-low gs = smallest-low (groupExists gs) (length gs) 1
+new-low gs = smallest-low _ (length gs) 1
 
 pub new-high : (gs : List Rec) → newGroup gs ≤ 1 + length gs
 unfolding newGroup
-new-high gs = smallest-high (groupExists gs) (length gs) 1
+new-high gs = smallest-high _ (length gs) 1
 
 pub new-fresh : (gs : List Rec) → groupExists gs (newGroup gs) ≡ false
 unfolding newGroup groupExists used

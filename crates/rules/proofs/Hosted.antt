@@ -1,17 +1,15 @@
 -- The host calls: admit and release, where they do something, change the tables in order and as the history's entries say.
-use mathlib.Core.Path.{_≡_, refl, sym, ap, _∙_}
+use mathlib.Core.Path.{_≡_, refl, _∙_}
 use mathlib.Core.Bool.{Bool, true, false, cond, not, _||_}
-use mathlib.Core.List.{List, [], _∷_, _++_}
-use Prim.Native.Nat.{ℕ, _≤_, _<_}
+use Prim.Native.Nat.{ℕ, _<_}
 use native.Mathlib.Omega.{arith}
-use borrow.Author.Tests.{leb-true, eq-eqb, not-true}
+use borrow.Author.Tests.{eq-eqb, not-true}
 use lib.Dec.{eqb}
-use lib.ListN.{take}
-use Rattle.rules.specs.Lists.{any, all, ask, _&_}
+use Rattle.rules.specs.Lists.{ask, _&_}
 use Rattle.rules.specs.Octets.{word, octets}
-use Rattle.rules.specs.Tables.{Rec, used, room?, matches, addressed, none, store, wipe, change, size, Lent, tables, Effect, effects, changed}
+use Rattle.rules.specs.Tables.{Rec, used, room?, matches, addressed, none, wipe, change, size, Lent, tables, Effect, changed}
 use Rattle.rules.specs.Exists.{admitted}
-use Rattle.rules.specs.Sound.{addressFits, deviceFits, toGroup, boundTo, fits, soundTable, sound}
+use Rattle.rules.specs.Sound.{deviceFits, toGroup, boundTo, fits, soundTable, sound}
 use Rattle.rules.specs.Host.{HostAnswer, hostAnswer, deviceRecord, deviceInRange, admitting, admit, releasing, release}
 use Rattle.rules.specs.Outcomes.{numberOf}
 use Rattle.rules.specs.History.{Entry, silent, adds, withdraws}
@@ -45,16 +43,16 @@ module _ {L : Lent} {x : Effect} {d b m : Entry} where
 -- Admit
 
 module _ (L : Lent) (d a u : ℕ) where
+  told-admit : Told (admitting d a u) (adds (deviceRecord d a u)) silent silent
+  unfolding admitting
+  told-admit = record { devices = says-added; binds = says-nothing; members = says-nothing }
+
   ok-admit : deviceInRange d a u ≡ true → not (admitted (tables L .devices) d) ≡ true → room? (tables L .devices) ≡ true → Ok L (admitting d a u)
   unfolding admitting admitted addressed tables fits spares deviceRecord octets
   ok-admit h n f =
       let i = device-fields d a u h in
       let new = order-store Devices L (deviceRecord d a u) (octets d) refl f (device-stored d a u i.0 i.1 i.2) (device-meets d a u h) (not-true _ n) in
       ok-adding L _ (orders L _ new (order-none Binds L) (order-none Groups L) (order-none Members L)) (λ r. refl) (λ r. refl)
-
-  told-admit : Told (admitting d a u) (adds (deviceRecord d a u)) silent silent
-  unfolding admitting
-  told-admit = record { devices = says-added; binds = says-nothing; members = says-nothing }
 
   pub hosted-admit : Hosted L (admitting d a u) (adds (deviceRecord d a u)) silent silent (admit L d a u)
   unfolding admit
@@ -76,6 +74,14 @@ module _ (L : Lent) (d : ℕ) (small : d < 32768) where
   names-device : (b : Rec) → shaped 8 b ≡ true → (matches 0 (octets d) b || matches 5 (octets d) b) ≡ (eqb (word 0 b) d || (not (toGroup b) & eqb (boundTo b) d))
   names-device b s = rw (matches-word 8 0 d b (omega arith) s, to-device d b small s)
 
+  told-release : Told (releasing d) (withdraws (λ x. eqb (word 0 x) d)) (withdraws (λ b. eqb (word 0 b) d || (not (toGroup b) & eqb (boundTo b) d))) (withdraws (λ x. eqb (word 2 x) d))
+  unfolding releasing
+  told-release = record {
+    devices = says-withdrawn (λ r s. addressed-word 4 d r (omega arith) s);
+    binds = says-withdrawn names-device;
+    members = says-withdrawn (λ r s. matches-word 5 2 d r (omega arith) s);
+  }
+
   ok-release : Ok L (releasing d)
   unfolding releasing spares fits Room
   ok-release = record {
@@ -96,14 +102,6 @@ module _ (L : Lent) (d : ℕ) (small : d < 32768) where
       kept Members r s w h =
           member-kept (wipe (addressed d)) none (tables L .devices) (tables L .groups) tt tt r
           (λ x e. apart (word 2 r) d x (λ z. never _ w (matches-word 5 2 d r (omega arith) s ∙ eq-eqb (word 2 r) d z)) e) (λ x e. refl) h
-
-  told-release : Told (releasing d) (withdraws (λ x. eqb (word 0 x) d)) (withdraws (λ b. eqb (word 0 b) d || (not (toGroup b) & eqb (boundTo b) d))) (withdraws (λ x. eqb (word 2 x) d))
-  unfolding releasing
-  told-release = record {
-    devices = says-withdrawn (λ r s. addressed-word 4 d r (omega arith) s);
-    binds = says-withdrawn names-device;
-    members = says-withdrawn (λ r s. matches-word 5 2 d r (omega arith) s);
-  }
 
 pub hosted-release : (L : Lent) (d : ℕ) → Sane L
     → Hosted L (releasing d) (withdraws (λ x. eqb (word 0 x) d)) (withdraws (λ b. eqb (word 0 b) d || (not (toGroup b) & eqb (boundTo b) d))) (withdraws (λ x. eqb (word 2 x) d)) (release L d)

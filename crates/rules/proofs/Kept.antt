@@ -1,21 +1,21 @@
 -- Soundness (document 01, Tables) and "every element of a table is an octet" are kept by every change that is in order.
-use mathlib.Core.Path.{_≡_, refl, sym, ap, _∙_}
-use mathlib.Core.Bool.{Bool, true, false, false≢true, cond, not, _&&_, _||_}
-use mathlib.Core.List.{List, [], _∷_}
-use Prim.Native.Nat.{ℕ, _+_, _*_, _%_, _≤_, _<_}
+use mathlib.Core.Path.{_≡_, refl, ap, _∙_}
+use mathlib.Core.Bool.{Bool, true, false, cond, not}
+use mathlib.Core.List.{List}
+use Prim.Native.Nat.{ℕ, _%_, _<_}
 use native.Mathlib.Omega.{arith}
 use borrow.Author.Tests.{eqb-true}
-use lib.Dec.{leb, eqb}
-use lib.ListN.{length, take}
+use lib.Dec.{eqb}
+use lib.ListN.{length}
 use Rattle.rules.specs.Lists.{any, all, _&_}
 use Rattle.rules.specs.Octets.{octet, word, octetString}
 use Rattle.rules.specs.Units.{unitAt}
-use Rattle.rules.specs.Tables.{Rec, records, used, addressed, Change, none, store, wipe, change, written, size, most, Lent, Tables, tables, Effect, nothing, changed}
+use Rattle.rules.specs.Tables.{Rec, records, used, addressed, Change, none, wipe, change, written, size, Lent, tables, Effect, nothing, changed}
 use Rattle.rules.specs.Exists.{hasUnit, unitExists, groupExists}
 use Rattle.rules.specs.Sound.{wholeRecords, toGroup, boundTo, destinationFits, bindFits, memberFits, fits, key, distinct, soundTable, sound}
 use Rattle.rules.specs.declared.Kind.{Kind}
 use Rattle.rules.specs.declared.Kind.the-variants.{Devices, Binds, Groups, Members}
-use Rattle.rules.proofs.Lists.{and-parts, split, join}
+use Rattle.rules.proofs.Lists.{split, join}
 use Rattle.rules.proofs.Words.{shaped}
 use Rattle.rules.proofs.Changes.{Room, New, spares, any-change, every-change, shaped-records, records-written, octets-written, length-written}
 use Rattle.rules.proofs.Distinct.{lone, distinct-change}

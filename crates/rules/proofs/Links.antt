@@ -1,21 +1,20 @@
 -- What the tables answer and what the history says: the recipients are the linked units, and the units that exist are the existing ones.
 use mathlib.Core.Path.{_≡_, refl, sym, ap, _∙_}
 use mathlib.Core.Bool.{Bool, true, false, cond, not, _&&_, _||_}
-use mathlib.Core.List.{List, [], _∷_, map, flatMap}
-use Prim.Native.Nat.{ℕ, _+_}
+use mathlib.Core.List.{List, [], _∷_}
+use Prim.Native.Nat.{ℕ}
 use native.Mathlib.Omega.{arith}
 use lib.Dec.{eqb, leb}
 use Rattle.rules.specs.Lists.{any, all, keep, has, _&_}
 use Rattle.rules.specs.Octets.{octet, word}
-use Rattle.rules.specs.Units.{unitAt, rising, without}
+use Rattle.rules.specs.Units.{unitAt, rising}
 use Rattle.rules.specs.Message.{sender}
 use Rattle.rules.specs.Tables.{Rec, used, addressed, Lent, tables}
 use Rattle.rules.specs.Exists.{hasUnit, unitExists}
 use Rattle.rules.specs.Sound.{toGroup, boundTo}
 use Rattle.rules.specs.Commands.{membersOf}
 use Rattle.rules.specs.Recipients.{serves, reached, recipients}
-use Rattle.rules.specs.History.{Event, deviceEntry, bindEntry, memberEntry, standing, bound, members, reaches, linked, existing, Exactly}
-use Rattle.rules.specs.declared.Kind.{Kind}
+use Rattle.rules.specs.History.{Event, bound, members, reaches, linked, existing, Exactly}
 use Rattle.rules.specs.declared.Kind.the-variants.{Devices, Binds as bind-table, Members}
 use Rattle.rules.specs.declared.Destination.the-variants.{Binds}
 use Rattle.rules.proofs.Lists.{any-same, any-alike, any-keep, any-map, any-flatMap}
@@ -23,7 +22,7 @@ use Rattle.rules.proofs.Words.{shaped, addressed-word}
 use Rattle.rules.proofs.Changes.{all-used, shaped-records}
 use Rattle.rules.proofs.Distinct.{eqb-turn}
 use Rattle.rules.proofs.Order.{has-ordered, has-without, rising-ordered, rising-unique}
-use Rattle.rules.proofs.Kept.{lentOf, tableOf, Sane}
+use Rattle.rules.proofs.Kept.{tableOf}
 use Rattle.rules.proofs.Standing.{Agree, agree-any}
 use Rattle.rules.proofs.Run.{Held}
 

@@ -1,23 +1,23 @@
 -- Over any run from free tables, the tables stay sound and of their lengths, and each holds the records that stand by history.
-use mathlib.Core.Path.{_≡_, refl, sym, ap, _∙_}
-use mathlib.Core.Bool.{Bool, true, false, cond, not}
+use mathlib.Core.Path.{_≡_, refl, _∙_}
+use mathlib.Core.Bool.{true, false, cond}
 use mathlib.Core.List.{List, [], _∷_}
-use Prim.Native.Nat.{ℕ, zero, suc, _+_, _*_, _/_, _%_, _≤_}
+use Prim.Native.Nat.{ℕ, zero, suc, _*_, _/_}
 use native.Mathlib.Nat.{div-add-mod'}
 use native.Mathlib.Omega.{arith}
 use borrow.Author.Tests.{eqb-true, le-leb}
 use lib.Dec.{eqb, leb}
 use lib.ListN.{length, take, drop, take-append-drop, length-drop}
-use Rattle.rules.specs.Lists.{all, _&_}
+use Rattle.rules.specs.Lists.{all}
 use Rattle.rules.specs.Octets.{octetString}
-use Rattle.rules.specs.Tables.{Rec, cut, records, free?, used, size, Lent, Tables, tables, Effect, changed}
-use Rattle.rules.specs.Sound.{soundTable, fits, distinct, key, wholeRecords, sound}
+use Rattle.rules.specs.Tables.{Rec, cut, records, free?, size, Lent, Tables, tables, changed}
+use Rattle.rules.specs.Sound.{soundTable, distinct, key, sound}
 use Rattle.rules.specs.History.{Call, left, said, after, Event, history, octetsOnly, granted, Entry, silent, stand, standing, bindEntry, memberEntry, deviceEntry, freeTable, freeTables}
 use Rattle.rules.specs.declared.Kind.{Kind}
 use Rattle.rules.specs.declared.Kind.the-variants.{Devices, Binds, Groups, Members}
 use Rattle.rules.proofs.Lists.{and-parts, split, join, all-weaken, all-append}
-use Rattle.rules.proofs.Changes.{Room, shaped-records}
-use Rattle.rules.proofs.Kept.{lentOf, tableOf, changeOf, sound-of, whole-length, Sane, InOrder, Ok, table-changed, length-changed, sane-changed}
+use Rattle.rules.proofs.Changes.{shaped-records}
+use Rattle.rules.proofs.Kept.{lentOf, tableOf, changeOf, sound-of, whole-length, Sane, table-changed, length-changed, sane-changed}
 use Rattle.rules.proofs.Standing.{Says, Agree, agree-change, agree-free, free-used}
 use Rattle.rules.proofs.Steps.{entered, Step, step}
 

@@ -1,22 +1,20 @@
 -- Every command answered 0x00 changes the tables in order, and changes them as the history's entries say.
-use mathlib.Core.Path.{_≡_, refl, sym, ap, _∙_}
-use mathlib.Core.Bool.{Bool, true, false, false≢true, cond, not, _&&_, _||_}
-use mathlib.Core.List.{List, [], _∷_, _++_}
-use Prim.Native.Nat.{ℕ, zero, suc, _+_, _*_, _/_, _%_, _≤_, _<_}
+use mathlib.Core.Path.{_≡_, refl, ap, _∙_}
+use mathlib.Core.Bool.{Bool, true, false, cond, not}
+use mathlib.Core.List.{List}
+use Prim.Native.Nat.{ℕ, _+_, _*_, _≤_, _<_}
 use native.Mathlib.Omega.{arith}
-use borrow.Author.Tests.{leb-true, le-leb, eqb-true, eq-eqb, ne-eqb, not-true}
-use lib.Dec.{leb, eqb}
-use lib.ListN.{length, take, drop}
+use borrow.Author.Tests.{leb-true, eqb-true, eq-eqb, not-true}
+use lib.ListN.{length, take}
 use lib.Seq.{take-all}
-use Rattle.rules.specs.Lists.{any, all, ask, _&_}
-use Rattle.rules.specs.Octets.{octet, word, octets, flag, number, joined, octetString}
+use Rattle.rules.specs.Lists.{any, ask}
+use Rattle.rules.specs.Octets.{octet, word, octets, joined, octetString}
 use Rattle.rules.specs.Names.{code, ok, notAuthorized, invalidArgument, notEnoughResources}
-use Rattle.rules.specs.Tables.{Rec, records, free?, used, room?, matches, addressed, Change, none, store, wipe, change, size, Lent, Tables, tables, Effect, effects, nothing}
-use Rattle.rules.specs.Exists.{admitted, groupExists}
-use Rattle.rules.specs.Sound.{wholeRecords, toGroup, boundTo, bindFits, memberFits, groupFits, fits, key, sound}
-use Rattle.rules.specs.Commands.{bindOf, memberOf, groupNamed, groupRecord, newGroup, wanted, rightsFit, payloadFits, verdict, judge, effect}
-use Rattle.rules.specs.Host.{deviceRecord, deviceInRange, admitting, releasing}
-use Rattle.rules.specs.History.{Entry, silent, adds, withdraws, bindLine, memberLine}
+use Rattle.rules.specs.Tables.{Rec, used, room?, matches, addressed, Change, none, store, wipe, change, size, Lent, Tables, tables, Effect, effects, nothing}
+use Rattle.rules.specs.Exists.{groupExists}
+use Rattle.rules.specs.Sound.{wholeRecords, boundTo, fits, key, sound}
+use Rattle.rules.specs.Commands.{bindOf, memberOf, groupNamed, groupRecord, newGroup, payloadFits, verdict, judge, effect}
+use Rattle.rules.specs.History.{Entry, silent, bindLine, memberLine}
 use Rattle.rules.specs.declared.Code.{Code}
 use Rattle.rules.specs.declared.Command.{Command}
 use Rattle.rules.specs.declared.Command.the-variants.{AddBind, RemoveBinds, CreateGroup, DeleteGroup, AddToGroup, RemoveFromGroup, GetGroupInfo, Other}
@@ -27,7 +25,7 @@ use Rattle.rules.proofs.Words.{shaped, addressed-word, to-group, apart}
 use Rattle.rules.proofs.Changes.{Room, New, spares, length-records}
 use Rattle.rules.proofs.Distinct.{lone}
 use Rattle.rules.proofs.Fresh.{new-low, new-high, new-fresh}
-use Rattle.rules.proofs.Kept.{lentOf, tableOf, changeOf, Sane, InOrder, Ok, order-none, order-wipe, whole-at, bind-kept, member-kept, all-kept, ok-nothing}
+use Rattle.rules.proofs.Kept.{tableOf, changeOf, Sane, InOrder, Ok, order-none, order-wipe, whole-at, bind-kept, member-kept, all-kept, ok-nothing}
 use Rattle.rules.proofs.Standing.{Says, says-nothing, says-added, says-withdrawn}
 use Rattle.rules.proofs.Stored.{Stored, bind-stored, member-stored, named-small, group-stored, group-meets}
 
@@ -52,6 +50,33 @@ full = not-ok 0xFE (λ z. omega arith)
 
 unauthorized : notAuthorized ≡ ok → ⊥
 unauthorized = not-ok 0x01 (λ z. omega arith)
+
+-- What a call does is what the history says of it
+
+pub record Told (x : Effect) (d b m : Entry) : Type 0 where
+  pub devices : Says (size Devices) (x .devices) d
+  pub binds : Says (size Binds) (x .binds) b
+  pub members : Says (size Members) (x .members) m
+
+pub told-nothing : Told nothing silent silent silent
+unfolding nothing
+told-nothing = record { devices = says-nothing; binds = says-nothing; members = says-nothing }
+
+pub told-command : (T : Tables) (k : Command) (p : List ℕ) → octetString p ≡ true → Told (effect T k p) silent (bindLine k p) (memberLine k p)
+unfolding effect bindLine memberLine nothing
+told-command T AddBind p o = record { devices = says-nothing; binds = says-added; members = says-nothing }
+told-command T (RemoveBinds from n) p o = record { devices = says-nothing; binds = says-withdrawn (λ r s. refl); members = says-nothing }
+told-command T CreateGroup p o = record { devices = says-nothing; binds = says-nothing; members = says-nothing }
+told-command T DeleteGroup p o =
+    record {
+      devices = says-nothing;
+      binds = says-withdrawn (λ b s. to-group (groupNamed p) b (named-small p o) s);
+      members = says-withdrawn (λ r s. addressed-word 5 (groupNamed p) r (omega arith) s);
+    }
+told-command T AddToGroup p o = record { devices = says-nothing; binds = says-nothing; members = says-added }
+told-command T RemoveFromGroup p o = record { devices = says-nothing; binds = says-nothing; members = says-withdrawn (λ r s. refl) }
+told-command T GetGroupInfo p o = told-nothing
+told-command T Other p o = told-nothing
 
 -- Changes in order
 
@@ -85,31 +110,23 @@ pub order-store : (k : Kind) (L : Lent) (r : Rec) (w : List ℕ) → take (key k
 unfolding Room New lone
 order-store k L r w e f s m a = record { room = (f, s .used); shape = s .shape; meets = m; alone = rw (e, a) }
 
-whole-key : (k : ℕ) (r : Rec) → Stored k r → take k r ≡ r
+-- the checks of Add Bind and Add to Group: a record that is stored whole and must not be there
+order-added : (k : Kind) (L : Lent) (r : Rec) → key k ≡ size k → Stored (size k) r
+    → ask (fits k (tables L .devices) (tables L .groups) r) invalidArgument
+    (ask (not (any (matches 0 r) (used (tableOf k L)))) invalidArgument
+    (ask (room? (tableOf k L)) notEnoughResources ok)) ≡ ok
+    → InOrder k L (store r)
 unfolding shaped
-whole-key k r s = let n = eqb-true (length r) k (split (s .shape) .0) in take-all k r (omega arith)
+order-added k L r e s v =
+    let a = pass invalid v in
+    let b = pass invalid a.1 in
+    let c = pass full b.1 in
+    let n = eqb-true (length r) (size k) (split (s .shape) .0) in
+    order-store k L r r (rw e (take-all (size k) r (omega arith))) c.0 s a.0 (not-true _ b.0)
 
 -- Each command
 
 module _ (L : Lent) (p : List ℕ) (o : octetString p ≡ true) where
-  ok-add-bind : payloadFits AddBind p ≡ true → verdict (tables L) AddBind p ≡ ok → Ok L (effects none (store (bindOf p)) none none)
-  unfolding payloadFits verdict tables fits
-  ok-add-bind l v =
-      let a = pass invalid v in
-      let b = pass invalid a.1 in
-      let c = pass full b.1 in
-      let s = bind-stored p (eqb-true (length p) 8 l) o in
-      ok-binds L (store (bindOf p)) (order-store Binds L (bindOf p) (bindOf p) (whole-key 8 (bindOf p) s) c.0 s a.0 (not-true _ b.0))
-
-  ok-add-member : payloadFits AddToGroup p ≡ true → verdict (tables L) AddToGroup p ≡ ok → Ok L (effects none none none (store (memberOf p)))
-  unfolding payloadFits verdict tables fits
-  ok-add-member l v =
-      let a = pass invalid v in
-      let b = pass invalid a.1 in
-      let c = pass full b.1 in
-      let s = member-stored p (eqb-true (length p) 5 l) o in
-      ok-members L (store (memberOf p)) (order-store Members L (memberOf p) (memberOf p) (whole-key 5 (memberOf p) s) c.0 s a.0 (not-true _ b.0))
-
   few-groups : Sane L → length (tables L .groups) ≤ 16
   unfolding tables wholeRecords
   few-groups S = omega (arith, length-records 16 (L .groups), leb-true (length (L .groups)) (16 * 16) (split (whole-at L (S .sound) Groups) .1))
@@ -145,7 +162,10 @@ module _ (L : Lent) (p : List ℕ) (o : octetString p ≡ true) where
       small : g < 32768
       small = named-small p o
 
-      kept : (k : Kind) (r : Rec) → shaped (size k) r ≡ true → spares (changeOf k (effects none (wipe (matches 5 (octets (joined 1 g)))) (wipe (addressed g)) (wipe (addressed g)))) r ≡ true
+      x : Effect
+      x = effects none (wipe (matches 5 (octets (joined 1 g)))) (wipe (addressed g)) (wipe (addressed g))
+
+      kept : (k : Kind) (r : Rec) → shaped (size k) r ≡ true → spares (changeOf k x) r ≡ true
           → fits k (tables L .devices) (tables L .groups) r ≡ true → fits k (change none (tables L .devices)) (change (wipe (addressed g)) (tables L .groups)) r ≡ true
       kept Devices r s w h = h
       kept Binds r s w h =
@@ -157,12 +177,12 @@ module _ (L : Lent) (p : List ℕ) (o : octetString p ≡ true) where
           (λ x e. apart (word 0 r) g x (λ z. never _ w (addressed-word 5 g r (omega arith) s ∙ eq-eqb (word 0 r) g z)) e) h
 
   ok-command : (k : Command) → Sane L → payloadFits k p ≡ true → verdict (tables L) k p ≡ ok → Ok L (effect (tables L) k p)
-  unfolding effect
-  ok-command AddBind S l v = ok-add-bind l v
+  unfolding effect payloadFits verdict tables fits
+  ok-command AddBind S l v = ok-binds L _ (order-added Binds L (bindOf p) refl (bind-stored p (eqb-true (length p) 8 l) o) v)
   ok-command (RemoveBinds from n) S l v = ok-binds L _ (order-wipe Binds L _)
   ok-command CreateGroup S l v = ok-create S l v
   ok-command DeleteGroup S l v = ok-delete
-  ok-command AddToGroup S l v = ok-add-member l v
+  ok-command AddToGroup S l v = ok-members L _ (order-added Members L (memberOf p) refl (member-stored p (eqb-true (length p) 5 l) o) v)
   ok-command RemoveFromGroup S l v = ok-members L _ (order-wipe Members L _)
   ok-command GetGroupInfo S l v = ok-nothing L
   ok-command Other S l v = ok-nothing L
@@ -176,30 +196,3 @@ module _ (L : Lent) (p : List ℕ) (o : octetString p ≡ true) where
 pub info-granted : (T : Tables) (s : ℕ) (p : List ℕ) → judge T s GetGroupInfo p ≡ ok → groupExists (T .groups) (groupNamed p) ≡ true
 unfolding judge verdict
 info-granted T s p j = pass invalid (pass invalid (pass unauthorized j .1) .1) .0
-
--- What a call does is what the history says of it
-
-pub record Told (x : Effect) (d b m : Entry) : Type 0 where
-  pub devices : Says (size Devices) (x .devices) d
-  pub binds : Says (size Binds) (x .binds) b
-  pub members : Says (size Members) (x .members) m
-
-pub told-nothing : Told nothing silent silent silent
-unfolding nothing
-told-nothing = record { devices = says-nothing; binds = says-nothing; members = says-nothing }
-
-pub told-command : (T : Tables) (k : Command) (p : List ℕ) → octetString p ≡ true → Told (effect T k p) silent (bindLine k p) (memberLine k p)
-unfolding effect bindLine memberLine nothing
-told-command T AddBind p o = record { devices = says-nothing; binds = says-added; members = says-nothing }
-told-command T (RemoveBinds from n) p o = record { devices = says-nothing; binds = says-withdrawn (λ r s. refl); members = says-nothing }
-told-command T CreateGroup p o = record { devices = says-nothing; binds = says-nothing; members = says-nothing }
-told-command T DeleteGroup p o =
-    record {
-      devices = says-nothing;
-      binds = says-withdrawn (λ b s. to-group (groupNamed p) b (named-small p o) s);
-      members = says-withdrawn (λ r s. addressed-word 5 (groupNamed p) r (omega arith) s);
-    }
-told-command T AddToGroup p o = record { devices = says-nothing; binds = says-nothing; members = says-added }
-told-command T RemoveFromGroup p o = record { devices = says-nothing; binds = says-nothing; members = says-withdrawn (λ r s. refl) }
-told-command T GetGroupInfo p o = record { devices = says-nothing; binds = says-nothing; members = says-nothing }
-told-command T Other p o = record { devices = says-nothing; binds = says-nothing; members = says-nothing }

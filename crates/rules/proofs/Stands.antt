@@ -1,7 +1,7 @@
 -- A record stands by the recursion of the history if and only if it stands in the customer's own form: a granted call added it, and no granted call
 -- since withdrew it.
 use mathlib.Core.Path.{_≡_, refl, sym, ap, _∙_}
-use mathlib.Core.Bool.{Bool, true, false, false≢true, cond, not, _&&_, _||_}
+use mathlib.Core.Bool.{Bool, true, false, false≢true, cond, not, _&&_}
 use mathlib.Core.Logic.{_⊎_, inl, inr}
 use mathlib.Core.List.{List, [], _∷_, _++_, List·Memᴰ, List·Memᴰ·head, List·Memᴰ·tail, List·Memᴰ·not-nil, List·Memᴰ·cases-cons}
 use Rattle.rules.specs.Lists.{all, keep, _&_}
@@ -103,3 +103,7 @@ module _ (f : Call → Entry) (r : Rec) where
           let n = member-kept (λ x. not (q x)) r (standing f h) m in
           later-still x h (spare true (withdraws q) g a n.0) (ih n.1)
       step false e g a m ih = later-still x h (spare false e g a refl) (ih m)
+
+  -- the two forms say the same
+  pub stands-as-told : (h : List Event) → (Stands f r h → List·Memᴰ r (standing f h)) × (List·Memᴰ r (standing f h) → Stands f r h)
+  stands-as-told h = (stands-member h, member-stands h)

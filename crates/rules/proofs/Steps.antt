@@ -1,12 +1,11 @@
 -- Every call, refused ones included, is one step: it leaves the tables with a change in order, and the change is what the call and its answer say.
 use mathlib.Core.Path.{_≡_, refl, sym, ap, _∙_}
-use mathlib.Core.Bool.{Bool, true, false, cond, not, _&&_, _||_}
-use mathlib.Core.List.{List, [], _∷_, _++_}
-use Prim.Native.Nat.{ℕ, _+_}
+use mathlib.Core.Bool.{Bool, true, false, cond}
+use mathlib.Core.List.{List, [], _∷_}
+use Prim.Native.Nat.{ℕ}
 use borrow.Author.Tests.{eqb-true}
 use lib.Dec.{eqb}
-use lib.ListN.{length, drop}
-use Rattle.rules.specs.Lists.{any, all, ask, _&_}
+use Rattle.rules.specs.Lists.{ask, _&_}
 use Rattle.rules.specs.Octets.{octet, octets, over, octetString}
 use Rattle.rules.specs.Names.{code, ok}
 use Rattle.rules.specs.Message.{source, headerLength, payload, header, reply}
@@ -16,14 +15,13 @@ use Rattle.rules.specs.Recipients.{recipients}
 use Rattle.rules.specs.Host.{HostAnswer, admit, release}
 use Rattle.rules.specs.Calls.{serving, wayTo, way, Answer, answer, served, forwarded, follow, message}
 use Rattle.rules.specs.Outcomes.{numberOf}
-use Rattle.rules.specs.History.{Call, sends, admits, releases, Said, said, left, octetsOnly, granted, Entry, silent, bindLine, memberLine, bindEntry, memberEntry, deviceEntry}
-use Rattle.rules.specs.declared.Code.{Code}
+use Rattle.rules.specs.History.{Call, sends, admits, releases, said, left, octetsOnly, granted, Entry, silent, bindLine, memberLine, bindEntry, memberEntry, deviceEntry}
 use Rattle.rules.specs.declared.Command.{Command}
 use Rattle.rules.specs.declared.Command.the-variants.{AddBind, RemoveBinds, CreateGroup, DeleteGroup, AddToGroup, RemoveFromGroup, GetGroupInfo, Other}
 use Rattle.rules.specs.declared.Destination.{Destination}
 use Rattle.rules.specs.declared.Destination.the-variants.{Concentrator, Binds, Unit as One, Group}
 use Rattle.rules.specs.declared.Outcome.{Outcome}
-use Rattle.rules.specs.declared.Outcome.the-variants.{Done, Forwarded, Nobody, WrongLength, WrongDataLength, WrongType, NoSource, NoDestination, ResponseToMany, Unsound, NoRoom, NotServed}
+use Rattle.rules.specs.declared.Outcome.the-variants.{WrongLength, WrongDataLength, WrongType, NoSource, NoDestination, ResponseToMany, Unsound, NoRoom}
 use Rattle.rules.specs.declared.Way.{Way}
 use Rattle.rules.specs.declared.Way.the-variants.{Refuse, Serve, Forward}
 use Rattle.rules.proofs.Lists.{all-drop}

@@ -1,20 +1,19 @@
 -- Runs of octets and the numbers that they make: on a record of octets, a test by octets and one by number are the same test.
-use mathlib.Core.Path.{_≡_, refl, sym, ap, _∙_}
-use mathlib.Core.Bool.{Bool, true, false, false≢true, cond, not, _&&_, _||_}
-use mathlib.Core.List.{List, [], _∷_, _++_}
+use mathlib.Core.Path.{_≡_, refl, sym, _∙_}
+use mathlib.Core.Bool.{Bool, true, false, false≢true, not, _&&_}
+use mathlib.Core.List.{List, [], _∷_}
 use Prim.Native.Nat.{ℕ, zero, suc, _+_, _*_, _/_, _%_, _≤_, _<_}
 use native.Mathlib.Numerals.{add-one}
 use native.Mathlib.Omega.{arith}
-use borrow.Author.Tests.{leb-true, le-leb, eqb-true, eqb-false, eq-eqb, ne-eqb, not-true}
+use borrow.Author.Tests.{leb-true, eqb-true, eqb-false, eq-eqb, ne-eqb, not-true}
 use lib.Dec.{eqb, leb}
-use lib.ListN.{length, getD, take, drop}
+use lib.ListN.{length}
 use lib.Seq.{drop-cons}
 use Rattle.rules.specs.Lists.{all, _&_}
-use Rattle.rules.specs.Octets.{octet, word, octets, starts, octetString, flag, number, joined, ignoreTop}
+use Rattle.rules.specs.Octets.{octet, word, octets, octetString, flag, number, joined}
 use Rattle.rules.specs.Tables.{Rec, matches, addressed}
 use Rattle.rules.specs.Sound.{toGroup, boundTo}
-use Rattle.rules.specs.Commands.{groupNamed}
-use Rattle.rules.proofs.Lists.{and-parts, split, join, same-truth}
+use Rattle.rules.proofs.Lists.{and-parts, split, same-truth}
 
 -- a record of k octets
 unfoldable pub shaped : ℕ → Rec → Bool
