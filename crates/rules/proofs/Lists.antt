@@ -2,9 +2,10 @@
 use mathlib.Core.Path.{_≡_, refl, sym, ap, _∙_}
 use mathlib.Core.Bool.{Bool, true, false, false≢true, cond, not, _&&_, _||_}
 use mathlib.Core.List.{List, [], _∷_, _++_, map, flatMap}
-use Prim.Native.Nat.{ℕ, zero, suc, _+_, _≤_, _<_}
+use Prim.Native.Nat.{ℕ, zero, suc, _+_, _≤_}
 use native.Mathlib.Omega.{arith}
-use Rattle.rules.specs.Lists.{_&_, ask, tick, count, any, all, keep}
+use lib.ListN.{length, take, drop, replicate}
+use Rattle.rules.specs.Lists.{_&_, ask, tick, count, any, all, keep, firstOf}
 
 unfoldable pub some? : ℕ → Bool
 some? zero = false
@@ -18,6 +19,14 @@ pub and-parts : (a b : Bool) → (a && b) ≡ true → (a ≡ true) × (b ≡ tr
 and-parts true b h = (refl, h)
 and-parts false b h = absurd (false≢true h)
 
+pub never : (b : Bool) → not b ≡ true → b ≡ true → ⊥
+never true h g = false≢true h
+never false h g = false≢true g
+
+pub or-parts : (a b : Bool) → (a || b) ≡ false → (a ≡ false) × (b ≡ false)
+or-parts true b h = absurd (false≢true (sym h))
+or-parts false b h = (refl, h)
+
 pub split : {a b : Bool} → (a & b) ≡ true → (a ≡ true) × (b ≡ true)
 unfolding _&_
 split {a} {b} h = and-parts a b h
@@ -25,6 +34,12 @@ split {a} {b} h = and-parts a b h
 pub join : {a b : Bool} → a ≡ true → b ≡ true → (a & b) ≡ true
 unfolding _&_
 join {a} {b} h g = rw h g
+
+-- two tests that imply each other are the same
+pub same-truth : (a b : Bool) → (a ≡ true → b ≡ true) → (b ≡ true → a ≡ true) → a ≡ b
+same-truth true b f g = sym (f refl)
+same-truth false true f g = g refl
+same-truth false false f g = refl
 
 -- a check that holds hands on, one that fails answers
 pub ask-pass : {A : Type 0} {b : Bool} (o r : A) → b ≡ true → ask b o r ≡ r
@@ -91,6 +106,119 @@ module _ {A : Type 0} where
   unfolding some?
   any-and true p l = refl
   any-and false p l = any-count _ l ∙ ap some? (count-none l)
+
+  -- tests that agree on the elements of a kind count alike in a list of that kind
+  pub count-alike : (s p q : A → Bool) → ((x : A) → s x ≡ true → p x ≡ q x) → (l : List A) → all s l ≡ true → count p l ≡ count q l
+  unfolding count all
+  count-alike s p q e [] h = refl
+  count-alike s p q e (x ∷ l) h = let a = and-parts (s x) (all s l) h in rw (e x a.0) (ap (tick (q x)) (count-alike s p q e l a.1))
+
+  pub any-alike : (s p q : A → Bool) → ((x : A) → s x ≡ true → p x ≡ q x) → (l : List A) → all s l ≡ true → any p l ≡ any q l
+  any-alike s p q e l h = any-count p l ∙ ap some? (count-alike s p q e l h) ∙ sym (any-count q l)
+
+  -- where none passes a test, none passes one that asks more
+  pub none-weaken : (s p q : A → Bool) → ((x : A) → s x ≡ true → q x ≡ true → p x ≡ true) → (l : List A) → all s l ≡ true
+      → any p l ≡ false → any q l ≡ false
+  unfolding any all
+  none-weaken s p q w [] a h = refl
+  none-weaken s p q w (x ∷ l) a h =
+      let b = and-parts (s x) (all s l) a in
+      step (p x) (q x) (w x b.0) h (none-weaken s p q w l b.1)
+    where
+      step : (a b : Bool) → (b ≡ true → a ≡ true) → (a || any p l) ≡ false → (any p l ≡ false → any q l ≡ false) → (b || any q l) ≡ false
+      step true b w h ih = absurd (false≢true (sym h))
+      step false true w h ih = absurd (false≢true (w refl))
+      step false false w h ih = ih h
+
+  pub all-any : (l : List A) → all (λ x. true) l ≡ true
+  unfolding all
+  all-any [] = refl
+  all-any (x ∷ l) = all-any l
+
+  pub all-keep : (p q : A → Bool) (l : List A) → all p l ≡ true → all p (keep q l) ≡ true
+  unfolding all keep
+  all-keep p q [] h = refl
+  all-keep p q (x ∷ l) h =
+      let a = and-parts (p x) (all p l) h in
+      elim (q x) as (λ b. all p (cond b (x ∷ keep q l) (keep q l)) ≡ true) [ true ↦ rw (a.0) (all-keep p q l a.1) | false ↦ all-keep p q l a.1 ]
+
+  pub all-append : (p : A → Bool) (k l : List A) → all p k ≡ true → all p l ≡ true → all p (k ++ l) ≡ true
+  unfolding all
+  all-append p [] l h g = g
+  all-append p (x ∷ k) l h g = let a = and-parts (p x) (all p k) h in rw (a.0) (all-append p k l a.1 g)
+
+  pub all-take : (p : A → Bool) (n : ℕ) (l : List A) → all p l ≡ true → all p (take n l) ≡ true
+  unfolding all
+  all-take p zero l h = refl
+  all-take p (suc n) [] h = refl
+  all-take p (suc n) (x ∷ l) h = let a = and-parts (p x) (all p l) h in rw (a.0) (all-take p n l a.1)
+
+  pub all-drop : (p : A → Bool) (n : ℕ) (l : List A) → all p l ≡ true → all p (drop n l) ≡ true
+  unfolding all
+  all-drop p zero l h = h
+  all-drop p (suc n) [] h = refl
+  all-drop p (suc n) (x ∷ l) h = all-drop p n l (and-parts (p x) (all p l) h .1)
+
+  pub all-replicate : (p : A → Bool) (n : ℕ) (a : A) → p a ≡ true → all p (replicate n a) ≡ true
+  unfolding all
+  all-replicate p zero a h = refl
+  all-replicate p (suc n) a h = rw h (all-replicate p n a h)
+
+  -- those that pass are as many as are kept, and no more than there are
+  pub length-kept : (p : A → Bool) (l : List A) → length (keep p l) ≡ count p l
+  unfolding keep count
+  length-kept p [] = refl
+  length-kept p (x ∷ l) = elim (p x) as (λ b. length (cond b (x ∷ keep p l) (keep p l)) ≡ tick b (count p l)) [ true ↦ ap suc (length-kept p l) | false ↦ length-kept p l ]
+
+  pub count-length : (p : A → Bool) (l : List A) → count p l ≤ length l
+  unfolding count
+  count-length p [] = omega arith
+  count-length p (x ∷ l) = let h = count-length p l in elim (p x) as (λ b. tick b (count p l) ≤ suc (length l)) [ true ↦ omega arith | false ↦ omega arith ]
+
+  pub count-some : (p : A → Bool) (l : List A) → any p l ≡ true → 1 ≤ count p l
+  unfolding some?
+  count-some p l h = step (count p l) (sym (any-count p l) ∙ h)
+    where
+      step : (n : ℕ) → some? n ≡ true → 1 ≤ n
+      step zero e = absurd (false≢true e)
+      step (suc n) e = omega arith
+
+  -- two tests that no element passes both count no more than one that both imply
+  pub count-two : (p q r : A → Bool) → ((x : A) → p x ≡ true → r x ≡ true) → ((x : A) → q x ≡ true → r x ≡ true) → ((x : A) → p x ≡ true → q x ≡ true → ⊥)
+      → (l : List A) → count p l + count q l ≤ count r l
+  unfolding count
+  count-two p q r f g d [] = omega arith
+  count-two p q r f g d (x ∷ l) = step (p x) (q x) (r x) (f x) (g x) (d x) (count-two p q r f g d l)
+    where
+      step : (a b c : Bool) → (a ≡ true → c ≡ true) → (b ≡ true → c ≡ true) → (a ≡ true → b ≡ true → ⊥)
+          → count p l + count q l ≤ count r l → tick a (count p l) + tick b (count q l) ≤ tick c (count r l)
+      step true true c f g d h = absurd (d refl refl)
+      step true false true f g d h = omega arith
+      step true false false f g d h = absurd (false≢true (f refl))
+      step false true true f g d h = omega arith
+      step false true false f g d h = absurd (false≢true (g refl))
+      step false false true f g d h = omega arith
+      step false false false f g d h = h
+
+  -- the first that passes has what all have
+  pub first-passes : (none : A) (p P : A → Bool) (l : List A) → any p l ≡ true → all P l ≡ true → P (firstOf none p l) ≡ true
+  unfolding any all firstOf
+  first-passes none p P [] h g = absurd (false≢true h)
+  first-passes none p P (x ∷ l) h g = let a = and-parts (P x) (all P l) g in step (p x) h a.0 (λ w. first-passes none p P l w a.1)
+    where
+      step : (b : Bool) → (b || any p l) ≡ true → P x ≡ true → (any p l ≡ true → P (firstOf none p l) ≡ true) → P (cond b x (firstOf none p l)) ≡ true
+      step true h e ih = e
+      step false h e ih = ih h
+
+  -- from one that passes, where all have something
+  pub any-with : {C : Type 0} (p P : A → Bool) → ((x : A) → p x ≡ true → P x ≡ true → C) → (l : List A) → any p l ≡ true → all P l ≡ true → C
+  unfolding any all
+  any-with p P f [] h g = absurd (false≢true h)
+  any-with {C} p P f (x ∷ l) h g = let a = and-parts (P x) (all P l) g in step (p x) refl h (λ k. any-with p P f l k a.1)
+    where
+      step : (b : Bool) → p x ≡ b → (b || any p l) ≡ true → (any p l ≡ true → C) → C
+      step true e h ih = f x e (and-parts (P x) (all P l) g .0)
+      step false e h ih = ih h
 
 module _ {A B : Type 0} where
   pub any-flatMap : (p : B → Bool) (f : A → List B) (l : List A) → any p (flatMap f l) ≡ any (λ x. any p (f x)) l

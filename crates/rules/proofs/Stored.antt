@@ -1,0 +1,123 @@
+-- The records that calls store: each has its table's size, is made of octets, and is no free record.
+use mathlib.Core.Path.{_≡_, refl}
+use mathlib.Core.Bool.{true, false}
+use mathlib.Core.List.{List, [], _∷_}
+use Prim.Native.Nat.{ℕ, suc, _+_, _-_, _/_, _%_, _≤_, _<_}
+use native.Mathlib.Omega.{arith}
+use borrow.Author.Tests.{leb-true, le-leb, eq-eqb, ne-eqb}
+use lib.Dec.{leb, eqb}
+use lib.ListN.{length, drop, replicate, length-append, length-replicate}
+use lib.Seq.{drop-at}
+use Rattle.rules.specs.Lists.{all}
+use Rattle.rules.specs.Octets.{octet, word, octets, ignoreTop, octetString}
+use Rattle.rules.specs.Tables.{Rec, free?}
+use Rattle.rules.specs.Sound.{addressFits, deviceFits, groupFits}
+use Rattle.rules.specs.Commands.{bindOf, memberOf, groupNamed, groupRecord}
+use Rattle.rules.specs.Host.{deviceRecord, deviceInRange}
+use Rattle.rules.proofs.Lists.{and-parts, split, join, all-append, all-replicate}
+use Rattle.rules.proofs.Words.{shaped, octet-small}
+
+pub record Stored (k : ℕ) (r : Rec) : Type 0 where
+  pub shape : shaped k r ≡ true
+  pub used : free? r ≡ false
+
+-- a first octet below 255 makes a record no free one
+stored : (k o : ℕ) (r : Rec) → length (o ∷ r) ≡ k → o < 255 → octetString r ≡ true → Stored k (o ∷ r)
+unfolding shaped free? octetString all
+stored k o r e l h = record {
+  shape = join (eq-eqb (length (o ∷ r)) k e) (rw (le-leb o 255 (omega arith)) h);
+  used = rw (ne-eqb o 255 (λ z. omega arith));
+}
+
+-- the tail of a string of octets
+pub octets-behind : (o : ℕ) (s : List ℕ) → octetString (o ∷ s) ≡ true → octetString s ≡ true
+unfolding octetString all
+octets-behind o s h = and-parts (leb o 255) (all (λ o. leb o 255) s) h .1
+
+octets-before : (o : ℕ) (s : List ℕ) → o ≤ 255 → octetString s ≡ true → octetString (o ∷ s) ≡ true
+unfolding octetString all
+octets-before o s l h = rw (le-leb o 255 l) h
+
+no-octets : octetString [] ≡ true
+unfolding octetString all
+no-octets = refl
+
+pub bind-stored : (p : List ℕ) → length p ≡ 8 → octetString p ≡ true → Stored 8 (bindOf p)
+unfolding bindOf ignoreTop
+bind-stored [] e h = absurd (omega arith)
+bind-stored (o ∷ p) e h = stored 8 (o % 128) p e (omega arith) (octets-behind o p h)
+
+pub member-stored : (p : List ℕ) → length p ≡ 5 → octetString p ≡ true → Stored 5 (memberOf p)
+unfolding memberOf ignoreTop
+member-stored [] e h = absurd (omega arith)
+member-stored (a ∷ []) e h = absurd (omega arith)
+member-stored (a ∷ b ∷ []) e h = absurd (omega arith)
+member-stored (a ∷ b ∷ c ∷ p) e h =
+    let i = octets-behind a (b ∷ c ∷ p) h in
+    stored 5 (a % 128) (b ∷ c % 128 ∷ p) e (omega arith)
+    (octets-before b (c % 128 ∷ p) (octet-small (b ∷ c ∷ p) 0 i) (octets-before (c % 128) p (omega arith) (octets-behind c p (octets-behind b (c ∷ p) i))))
+
+-- a group's address in a payload is 15 bits
+pub named-small : (p : List ℕ) → octetString p ≡ true → groupNamed p < 32768
+unfolding groupNamed word ignoreTop
+named-small [] h = omega arith
+named-small (o ∷ p) h = omega (arith, octet-small (o ∷ p) 1 h)
+
+-- the record of a group
+module _ (g : ℕ) (p : List ℕ) where
+  pub group-address : word 0 (groupRecord g p) ≡ g
+  unfolding word groupRecord octets
+  group-address = omega arith
+
+  group-length : length p ≤ 14 → length (groupRecord g p) ≡ 16
+  unfolding groupRecord octets
+  group-length h = simp (length-append, length-replicate) (omega arith)
+
+  pub group-stored : g ≤ 32766 → length p ≤ 14 → octetString p ≡ true → Stored 16 (groupRecord g p)
+  unfolding groupRecord octets octetString
+  group-stored h l o =
+      stored 16 (g / 256) _ (group-length l) (omega arith)
+      (octets-before (g % 256) _ (omega arith) (all-append _ p _ o (all-replicate _ (14 - length p) 0 refl)))
+
+  group-padding : (n : ℕ) → length p ≡ 1 + n → all (λ o. eqb o 0) (drop (3 + n) (groupRecord g p)) ≡ true
+  unfolding groupRecord octets
+  group-padding n e =
+      let z : 3 + n ≡ suc (suc (1 + n)) = omega arith in
+      rw (z, drop-at p (replicate (14 - length p) 0) (1 + n) e) (all-replicate _ (14 - length p) 0 refl)
+
+  pub group-meets : 1 ≤ g → g ≤ 32766 → length p ≡ 1 + octet 0 p → octet 0 p ≤ 13 → groupFits (groupRecord g p) ≡ true
+  unfolding groupFits addressFits groupRecord octets
+  group-meets low high e n =
+      let s = name p e in
+      rw (group-address, s) (join (join (join (le-leb 1 g low) (le-leb g 32766 high)) (le-leb (octet 0 p) 13 n)) (group-padding (octet 0 p) e))
+    where
+      name : (p : List ℕ) → length p ≡ 1 + octet 0 p → octet 2 (groupRecord g p) ≡ octet 0 p
+      name [] e = absurd (omega arith)
+      name (o ∷ p) e = refl
+
+-- the record of a device
+module _ (d a u : ℕ) where
+  pub device-stored : d ≤ 32766 → a ≤ 1 → u ≤ 254 → Stored 4 (deviceRecord d a u)
+  unfolding deviceRecord octets
+  device-stored h i j =
+      stored 4 (d / 256) (d % 256 ∷ a ∷ u ∷ []) refl (omega arith)
+      (octets-before (d % 256) _ (omega arith) (octets-before a _ (omega arith) (octets-before u [] (omega arith) no-octets)))
+
+  device-address : word 0 (deviceRecord d a u) ≡ d
+  unfolding word deviceRecord octets
+  device-address = omega arith
+
+  pub device-meets : deviceInRange d a u ≡ true → deviceFits (deviceRecord d a u) ≡ true
+  unfolding deviceInRange deviceFits deviceRecord octets
+  device-meets h = rw (device-address) h
+
+  pub device-fields : deviceInRange d a u ≡ true → (d ≤ 32766) × (a ≤ 1) × (u ≤ 254)
+  unfolding deviceInRange addressFits
+  device-fields h =
+      let x = split h in
+      let y = split x.0 in
+      (leb-true d 32766 (split (y.0) .1), leb-true a 1 y.1, leb-true u 254 x.1)
+
+pub device-high : (r : Rec) → deviceFits r ≡ true → word 0 r ≤ 32766
+unfolding deviceFits addressFits
+device-high r h = leb-true (word 0 r) 32766 (split (split (split h .0) .0) .1)
