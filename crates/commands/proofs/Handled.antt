@@ -11,8 +11,9 @@ use Rattle.rules.specs.Names.{ok, invalidArgument, notEnoughResources}
 use Rattle.rules.specs.Tables.{Rec, records, used, room?, matches, addressed, Change, wipe, written}
 use Rattle.rules.specs.Octets.{octet, octets}
 use Rattle.rules.specs.Exists.{groupExists}
+use Rattle.rules.specs.Sound.{bindFits, memberFits}
 use Rattle.rules.specs.declared.Code.{Code}
-use Rattle.commands.specs.Handlers.{Decided, decided, onOk, deciding, addition, removal, creation, Freed, deleted, deletion, deleting}
+use Rattle.commands.specs.Handlers.{Decided, decided, onOk, deciding, addition, removal, bindAddition, memberAddition, creation, Freed, deleted, deletion, deleting}
 
 pub changes : (k : ℕ) {c d : Code} (x : Change) (t : List ℕ) {t' : List ℕ} → c ≡ d → c .0 ≡ 0 → t' ≡ written k x t → decided c t' ≡ deciding k d x t
 unfolding deciding onOk
@@ -84,3 +85,21 @@ pub group-gone : (g : ℕ) (bs gs ms : List ℕ) {bs' gs' ms' : List ℕ} → gr
     → deleted ok bs' gs' ms' ≡ deleting g bs gs ms
 unfolding deleting deletion ask onOk
 group-gone g bs gs ms h f = rw (h, f .binds, f .groups, f .members)
+
+-- Add Bind and Add to Group: where the field rules fail, and where they hold
+
+pub bind-unfit : (ds gs : List Rec) (b : Rec) (t : List Rec) → bindFits ds gs b ≡ false → invalidArgument ≡ bindAddition ds gs b t
+unfolding bindAddition ask
+bind-unfit ds gs b t h = rw h
+
+pub bind-fit : (ds gs : List Rec) (b : Rec) (t : List Rec) → bindFits ds gs b ≡ true → addition b t ≡ bindAddition ds gs b t
+unfolding bindAddition ask
+bind-fit ds gs b t h = rw h
+
+pub member-unfit : (ds gs : List Rec) (m : Rec) (t : List Rec) → memberFits ds gs m ≡ false → invalidArgument ≡ memberAddition ds gs m t
+unfolding memberAddition ask
+member-unfit ds gs m t h = rw h
+
+pub member-fit : (ds gs : List Rec) (m : Rec) (t : List Rec) → memberFits ds gs m ≡ true → addition m t ≡ memberAddition ds gs m t
+unfolding memberAddition ask
+member-fit ds gs m t h = rw h

@@ -9,7 +9,7 @@ ghost use lib.ListN.{length};
 ghost use Rattle.rules.specs.Octets.{octet};
 ghost use Rattle.rules.specs.Tables.{records, matches, wipe, store};
 ghost use Rattle.rules.specs.Commands.{newGroup, memberOf, groupNamed, groupRecord};
-ghost use Rattle.commands.specs.Handlers.{decided, deciding, removal, creation, Freed, deleted, deleting};
+ghost use Rattle.commands.specs.Handlers.{decided, deciding, removal, memberAddition, creation, Freed, deleted, deleting};
 
 // The smallest address from 0x0001 that no group has.
 fn new_group(groups: &[u8]) -> u16
@@ -87,4 +87,16 @@ pub fn delete_group(binds: &mut [u8], groups: &mut [u8], members: &mut [u8], pay
     }
     free_group(binds, groups, members, group);
     Code::OK
+}
+
+// Add to Group: group, device and unit of the payload, if they exist.
+pub fn add_to_group(devices: &[u8], groups: &[u8], members: &mut [u8], payload: &[u8]) -> Code
+    requires { ⌜ (length (now payload) ≡ 5) × (length (now members) % 5 ≡ 0) ⌝ }
+    ensures { λ r. ⌜ decided r (now (members .exit)) ≡ deciding 5 (memberAddition (records 4 (now (devices .entry))) (records 16 (now (groups .entry))) (memberOf (now (payload .entry))) (records 5 (now (members .entry)))) (store (memberOf (now (payload .entry)))) (now (members .entry)) ⌝ }
+{
+    let member = decode::member_of(payload);
+    if !tables::member_fits(member, devices, groups) {
+        return Code::INVALID_ARGUMENT;
+    }
+    changes::add(members, 5, &member)
 }

@@ -1,6 +1,7 @@
 // The eleven commands of document 01, each from payload to reply payload.
 mod binds;
 mod changes;
+mod checks;
 mod decode;
 mod groups;
 
