@@ -7,6 +7,7 @@ use native.Mathlib.Numerals.{add-one}
 use native.Mathlib.Omega.{arith}
 use lib.ListN.{length, drop, getD, length-append, drop-of-length-le}
 use lib.Seq.{sets, length-sets, drop-cons, getD-drop, drop-drop}
+use Rattle.rules.specs.Octets.{over}
 use Rattle.octets.proofs.Runs.{sets-over}
 use Rattle.report.specs.Text.{hexOctet, recipientLine, recipientLines, Wrote, Printed}
 
@@ -27,6 +28,11 @@ wrote-more {a} {b} {t} {u} {v} {at} w x =
 -- a whole text, from the first place on
 pub wrote-all : {a t u : List ℕ} {n : ℕ} → Wrote a t 0 n u → Printed a t n u
 wrote-all {a} {t} w = (omega arith, w .text ∙ sets-over a t (omega arith))
+
+-- .. which lies within the buffer, for whoever hands on its first n octets
+pub printed-within : (a t : List ℕ) {u : List ℕ} {n : ℕ} → Printed a t n u → length u ≡ length t → n ≤ length u
+unfolding over
+printed-within a t p e = omega (arith, p .0, ap length (p .1), length-append a (drop (length a) t))
 
 -- whole is being written into t₀ from `at` on: t has it up to next, and left is yet to come
 pub record Going (whole t₀ : List ℕ) (at : ℕ) (left t : List ℕ) (next : ℕ) : Type 0 where
