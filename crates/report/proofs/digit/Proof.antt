@@ -1,0 +1,17 @@
+-- `report::digit` meets its contract. The test is the definition's.
+use borrow.Author.Needs.{needs}
+use borrow.Author.Tests.{lt-ltb, le-ltb}
+use Rattle.report.specs.Text.{digit}
+use Rattle.report.proofs.digit.Statement.{statement}
+use Rattle.report.proofs.digit.Tie as tie
+
+returns : tie.Need-returns
+unfolding digit
+returns c = rw (lt-ltb _ _ (c .if1 .taken))
+
+returns-2 : tie.Need-returns-2
+unfolding digit
+returns-2 c = rw (le-ltb _ _ (c .if1 .left))
+
+pub digit-spec : {M : Type 1} → statement M
+digit-spec = tie.close (tie.spec (λ c. search needs) (λ c. search needs) returns returns-2)

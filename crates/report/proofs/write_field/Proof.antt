@@ -1,0 +1,13 @@
+-- `report::write_field` meets its contract. The word and the number are one piece.
+use borrow.Author.Needs.{needs}
+use Rattle.report.proofs.Pieces.{wrote-more}
+use Rattle.report.proofs.write_field.Statement.{statement}
+use Rattle.report.proofs.write_field.Tie as tie
+
+returns : tie.Need-returns
+returns c =
+    let n = c .before .before in
+    wrote-more (n .before .before .before .before .write-run .ensures) (n .write-decimal .ensures)
+
+pub write-field-spec : {M : Type 1} → statement M
+write-field-spec = tie.close (tie.spec (λ c κs. search needs) (λ c κs. search needs) (λ c. search needs) returns)

@@ -1,0 +1,2 @@
+-- The definitions that the contracts of `report` cite.
+pub mod Text

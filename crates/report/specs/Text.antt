@@ -1,0 +1,98 @@
+-- The text that the program `links` prints (document 01, Rows to try), as ASCII octets.
+use mathlib.Core.Path.{_≡_}
+use mathlib.Core.Bool.{cond}
+use mathlib.Core.List.{List, [], _∷_, _++_, flatMap}
+use Prim.Native.Nat.{ℕ, zero, suc, _+_, _-_, _*_, _/_, _%_, _≤_}
+use Prim.Native.Char.{code}
+use Prim.Native.String.{String, [] as empty, _∷_ as _then_}
+use lib.Dec.{eqb, ltb}
+use lib.ListN.{length, take, drop}
+use lib.Seq.{sets}
+use Rattle.rules.specs.Octets.{octet, over}
+use Rattle.rules.specs.Outcomes.{numberOf, valueOf}
+use Rattle.rules.specs.declared.Outcome.{Outcome}
+
+-- a text's octets
+abbrev pub ascii : String → List ℕ
+ascii empty = []
+ascii (c then s) = code c ∷ ascii s
+
+abbrev pub line : List ℕ → List ℕ
+line s = s ++ ascii "\n"
+
+-- a digit: 0 to 9, then A to F
+unfoldable pub digit : ℕ → ℕ
+digit d = cond (ltb d 10) (code "0" + d) (code "A" + (d - 10))
+
+-- "two digits an octet"
+abbrev pub hexOctet : ℕ → List ℕ
+hexOctet o = digit (o / 16) ∷ digit (o % 16) ∷ []
+
+-- a number's last k decimal digits, without leading zeros
+abbrev pub digits : ℕ → ℕ → List ℕ
+digits zero n = []
+digits (suc k) n = cond (ltb n 10) (digit n ∷ []) (digits k (n / 10) ++ digit (n % 10) ∷ [])
+
+-- a number in decimal: 64 bits have 20 digits at most
+unfoldable pub decimal : ℕ → List ℕ
+decimal n = digits 20 n
+
+-- "device and unit in upper-case hex: four digits, a colon, two digits", from a recipient's three octets
+abbrev pub recipientLine : ℕ → ℕ → ℕ → List ℕ
+recipientLine high low unit = line (hexOctet high ++ hexOctet low ++ ascii ":" ++ hexOctet unit)
+
+-- the first n recipients of a list, "one a line"
+unfoldable pub recipientLines : ℕ → List ℕ → List ℕ
+recipientLines zero l = []
+recipientLines (suc n) l = recipientLine (octet 0 l) (octet 1 l) (octet 2 l) ++ recipientLines n (drop 3 l)
+
+-- "one line gives the reply in upper-case hex, two digits an octet, no spaces"
+unfoldable pub hexLine : List ℕ → List ℕ
+hexLine s = line (flatMap hexOctet s)
+
+-- a word and a number
+abbrev pub field : List ℕ → ℕ → List ℕ
+field word n = word ++ decimal n
+
+-- "the outcome, the recipient count"
+unfoldable pub firstLine : ℕ → ℕ → List ℕ
+firstLine n c = line (field (ascii "outcome ") n ++ field (ascii " count ") c)
+
+-- what goes with the outcome of this number: its count or length; 0 where the outcome is another
+unfoldable pub valueIf : ℕ → Outcome → ℕ
+valueIf n o = cond (eqb (numberOf o) n) (valueOf o) 0
+
+-- the recipient count, of outcome 1 alone, and the reply's length, of outcome 0 alone
+abbrev pub countOf : Outcome → ℕ
+countOf o = valueIf 1 o
+
+abbrev pub lengthOf : Outcome → ℕ
+lengthOf o = valueIf 0 o
+
+-- the whole text for an outcome, the reply and the recipient list: "Any outcome but 0 and 1 prints its first line alone, with count 0"
+unfoldable pub answerText : Outcome → List ℕ → List ℕ → List ℕ
+answerText o reply list =
+    firstLine (numberOf o) (countOf o)
+    ++ cond (eqb (numberOf o) 0) (hexLine (take (lengthOf o) reply)) (recipientLines (countOf o) list)
+
+-- "Input under 1,664 octets prints `short input` alone"
+abbrev pub shortText : List ℕ
+shortText = line (ascii "short input")
+
+-- a piece that fits stands in the text from `at` on, and `next` is the place behind it
+pub record Wrote (piece old : List ℕ) (at next : ℕ) (new : List ℕ) : Type 0 where
+  pub fits : at + length piece ≤ length old
+  pub place : next ≡ at + length piece
+  pub text : new ≡ sets old at piece
+
+-- a whole text stands over what the buffer held, and n is its length
+abbrev pub Printed : List ℕ → List ℕ → ℕ → List ℕ → Type 0
+Printed whole old n new = (n ≡ length whole) × (new ≡ over whole old)
+
+-- the lengths that an answer's text asks for: the reply and the list hold what the outcome says, a reply has 500 octets at most, a list 192 recipients
+pub record Room (o : Outcome) (r l t : List ℕ) : Type 0 where
+  pub reply : lengthOf o ≤ length r
+  pub longest : lengthOf o ≤ 500
+  pub list : 3 * countOf o ≤ length l
+  pub most : countOf o ≤ 192
+  pub text : 2048 ≤ length t
