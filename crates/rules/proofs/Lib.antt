@@ -18,3 +18,4 @@ pub mod Links
 pub mod Counts
 pub mod Condition3
 pub mod Stands
+pub mod Worked
