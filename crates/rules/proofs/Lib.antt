@@ -21,3 +21,4 @@ pub mod Links
 pub mod Counts
 pub mod Condition3
 pub mod Stands
+pub mod Worked
