@@ -2,3 +2,4 @@
 pub mod Search
 pub mod Rights
 pub mod Places
+pub mod Lengths

@@ -63,6 +63,7 @@ pub fn device_fits(rec: &[u8]) -> bool
     address & (rec[2] <= 1) & (rec[3] <= 254)
 }
 
+// An octet as a count.
 fn wide(octet: u8) -> usize
     ensures { λ r. ⌜ r ≡ octet ⌝ }
 {
@@ -128,13 +129,11 @@ pub fn bind_fits(bind: [u8; 8], devices: &[u8], groups: &[u8]) -> bool
 pub fn member_fits(member: [u8; 5], devices: &[u8], groups: &[u8]) -> bool
     ensures { λ r. ⌜ r ≡ memberFits (records (size Devices) (now (devices .entry))) (records (size Groups) (now (groups .entry))) member ⌝ }
 {
-    let group = exists::group_exists(groups, GroupAddress(octets::word_at(&member, 0)));
-    let unit = exists::unit_exists(
-        devices,
-        DeviceAddress(octets::word_at(&member, 2)),
-        member[4],
-    );
-    group & unit
+    let group = octets::word_at(&member, 0);
+    let device = octets::word_at(&member, 2);
+    let group_there = exists::group_exists(groups, GroupAddress(group));
+    let unit_there = exists::unit_exists(devices, DeviceAddress(device), member[4]);
+    group_there & unit_there
 }
 
 // A used record of a table, by the table's rule.

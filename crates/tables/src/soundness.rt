@@ -71,6 +71,7 @@ fn free_or_fits(kind: Kind, rec: &[u8], devices: &[u8], groups: &[u8]) -> bool
     free | fit
 }
 
+// .. for every record of a table.
 fn all_fit(kind: Kind, table: &[u8], devices: &[u8], groups: &[u8]) -> bool
     ensures { λ r. ⌜ r ≡ all (fits kind (records (size Devices) (now (devices .entry))) (records (size Groups) (now (groups .entry)))) (used (records (size kind) (now (table .entry)))) ⌝ }
 {

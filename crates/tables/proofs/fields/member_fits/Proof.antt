@@ -8,15 +8,15 @@ use Rattle.tables.proofs.fields.member_fits.Tie as tie
 returns : tie.Need-returns
 unfolding memberFits _&_
 returns c =
-    let g = c .before .before .before in
-    rw (g .group-exists .ensures, g .before .word-at .ensures, c .unit-exists .ensures, c .before .word-at2 .ensures)
+    let w = c .before .before in
+    rw (c .before .group-exists .ensures, w .before .before .word-at .ensures, c .unit-exists .ensures, w .word-at2 .ensures)
 
 pub member-fits-spec : {M : Type 1} → statement M
 member-fits-spec = tie.close (tie.spec
     (λ c. search needs)
     (λ c κs. search needs)
-    (λ c κs. search needs)
     (λ c. search needs)
+    (λ c κs. search needs)
     (λ c κs. search needs)
     (λ c. search needs)
     (λ c κs. search needs)
