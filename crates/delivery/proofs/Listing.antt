@@ -1,18 +1,20 @@
 -- Laws of the recipients in a lent list: three octets and the unit's number, reading back what was written, one more recipient.
 use mathlib.Core.Path.{_≡_, refl, sym, ap, _∙_}
-use mathlib.Core.Bool.{true, false}
+use mathlib.Core.Bool.{true, false, false≢true}
 use mathlib.Core.List.{List, [], _∷_, _++_, flatMap, append-assoc}
-use Prim.Native.Nat.{ℕ, zero, suc, _+_, _-_, _*_, _/_, _%_, _≤_, _<_}
+use Prim.Native.Nat.{ℕ, zero, suc, _+_, _-_, _*_, _/_, _%_, _^_, _≤_, _<_}
 use native.Mathlib.Nat.{add-zero, add-assoc, zero-add, sub-zero}
 use native.Mathlib.Numerals.{add-one}
 use native.Mathlib.Omega.{arith}
+use borrow.Author.Tests.{eqb-true}
+use lib.Dec.{eqb}
 use lib.ListN.{length, getD, take, drop, length-append, length-drop, take-append-drop}
 use lib.Seq.{getD-take, getD-drop, drop-drop, drop-append-add, length-take-le, take-at, drop-at, sets, sets-eq}
 use Rattle.rules.specs.Lists.{has}
 use Rattle.rules.specs.Octets.{octet, word, over}
 use Rattle.rules.specs.Units.{unitNumber, unitAt, threeOctets, unitOctets}
 use Rattle.delivery.specs.Listing.{units, added, Listing}
-use Rattle.delivery.proofs.Units.{added-there, added-new, added-grows}
+use Rattle.delivery.proofs.Units.{or-either, has-none, has-cons, added-there, added-new, added-grows}
 
 -- Octets written over octets
 
@@ -90,6 +92,31 @@ octets-units (suc n) (a ∷ b ∷ c ∷ l) o h =
     let y : ((a * 256 + b) * 256 + c) / 256 % 256 ≡ b = omega (arith, o 0, o 1, o 2) in
     let z : ((a * 256 + b) * 256 + c) % 256 ≡ c = omega (arith, o 0, o 1, o 2) in
     rw (m, x, y, z, octets-units n l (λ i. o (suc (suc (suc i)))) (omega arith))
+
+-- octets behind them make no difference, so a copy of them has the same units
+units-append : (n : ℕ) (l z : List ℕ) → 3 * n ≤ length l → units n (l ++ z) ≡ units n l
+unfolding units unitAt unitNumber word
+units-append zero l z h = refl
+units-append (suc n) [] z h = absurd (omega arith)
+units-append (suc n) (a ∷ []) z h = absurd (omega arith)
+units-append (suc n) (a ∷ b ∷ []) z h = absurd (omega arith)
+units-append (suc n) (a ∷ b ∷ c ∷ l) z h = rw (units-append n l z (omega arith))
+
+pub units-copied : (n : ℕ) (l z : List ℕ) → 3 * n ≤ length l → units n (over (take (3 * n) l) z) ≡ units n l
+unfolding over
+units-copied n l z h =
+    let k : 3 * n ≤ length (take (3 * n) l) = rw (length-take-le (3 * n) l h) (omega arith) in
+    let e : units n (take (3 * n) l ++ drop (3 * n) l) ≡ units n l = ap (units n) (take-append-drop (3 * n) l) in
+    units-append n (take (3 * n) l) _ k ∙ sym (units-append n (take (3 * n) l) (drop (3 * n) l) k) ∙ e
+
+-- a unit in octets is below 2 ^ 24
+pub has-small : (n : ℕ) (l : List ℕ) (u : ℕ) → ((i : ℕ) → getD l i 0 < 256) → has u (units n l) ≡ true → u < 2 ^ 24
+unfolding units unitAt unitNumber word
+has-small zero l u o h = absurd (false≢true (sym (has-none u) ∙ h))
+has-small (suc n) l u o h =
+    or-either (eqb u (unitAt 0 l)) (has u (units n (drop 3 l))) (sym (has-cons u (unitAt 0 l) (units n (drop 3 l))) ∙ h)
+    (λ e. omega (arith, eqb-true u (unitAt 0 l) e, o 0, o 1, o 2))
+    (has-small n (drop 3 l) u (λ i. rw getD-drop (o (3 + i))))
 
 -- The units from place i on of the first n
 
