@@ -2,3 +2,4 @@
 pub mod Units
 pub mod Listing
 pub mod Ordering
+pub mod Collecting

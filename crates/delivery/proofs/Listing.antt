@@ -13,8 +13,8 @@ use lib.Seq.{getD-take, getD-drop, drop-drop, drop-append-add, length-take-le, t
 use Rattle.rules.specs.Lists.{has}
 use Rattle.rules.specs.Octets.{octet, word, over}
 use Rattle.rules.specs.Units.{unitNumber, unitAt, threeOctets, unitOctets}
-use Rattle.delivery.specs.Listing.{units, added, Listing}
-use Rattle.delivery.proofs.Units.{or-either, has-none, has-cons, added-there, added-new, added-grows}
+use Rattle.delivery.specs.Listing.{units, added, addedAll, Taken, Room}
+use Rattle.delivery.proofs.Units.{or-either, has-none, has-cons, added-there, added-new, addedAll-grows}
 
 -- Octets written over octets
 
@@ -140,17 +140,8 @@ from-end i n l h =
     let m : n - i ≡ 0 = omega arith in
     rw m
 
--- The state of a list
+-- The state of a list: one more unit behind the others
 
--- as it is lent
-pub listing-start : (n : ℕ) (l : List ℕ) → ((i : ℕ) → getD l i 0 < 256) → 3 * n ≤ length l → Listing l l n (units n l)
-unfolding over
-listing-start n l o h = record {
-  count = sym (length-units n l);
-  octets = rw (octets-units n l o h, length-take-le (3 * n) l h) (sym (take-append-drop (3 * n) l));
-}
-
--- one more unit behind the others
 pub written-more : (us l₀ : List ℕ) {l : List ℕ} {n : ℕ} (u : ℕ) → l ≡ over (unitOctets us) l₀ → n ≡ length us → 3 * n + 3 ≤ length l₀
     → sets l (3 * n) (threeOctets u) ≡ over (unitOctets (us ++ u ∷ [])) l₀
 unfolding over threeOctets
@@ -163,22 +154,37 @@ written-more us l₀ {l} {n} u e c h =
     let t : take (3 * n) l ≡ unitOctets us = rw f (take-at (unitOctets us) _ (3 * n) a) in
     sets-eq (threeOctets u) l (3 * n) (omega arith) ∙ rw (k, d, t, unitOctets-more)
 
--- Taking a unit u, whose number in the code is w
+-- as it is lent, its units are written over it
+pub units-stand : (n : ℕ) (l : List ℕ) → ((i : ℕ) → getD l i 0 < 256) → 3 * n ≤ length l → l ≡ over (unitOctets (units n l)) l
+unfolding over
+units-stand n l o h = rw (octets-units n l o h, length-take-le (3 * n) l h) (sym (take-append-drop (3 * n) l))
 
-module _ {u w : ℕ} (n : ℕ) (l : List ℕ) (e : w ≡ u) (room : 3 * length (added u (units n l)) ≤ length l) where
-  pub room-so-far : 3 * n ≤ length l
-  room-so-far = omega (arith, length-units n l, added-grows u (units n l))
+-- Taking units
 
+pub room-so-far : {vs : List ℕ} {n : ℕ} {l : List ℕ} → Room vs n l → 3 * n ≤ length l
+room-so-far {vs} {n} {l} r = omega (arith, length-units n l, addedAll-grows vs (units n l))
+
+pub taken-none : {vs : List ℕ} {n : ℕ} {l : List ℕ} → vs ≡ [] → ((i : ℕ) → getD l i 0 < 256) → Room vs n l → Taken vs n l n l
+unfolding addedAll
+taken-none {vs} {n} {l} e o r = rw e (record { count = sym (length-units n l); octets = units-stand n l o (room-so-far r) })
+
+-- a unit u, whose number in the code is w
+module _ {u w n : ℕ} {l : List ℕ} (e : w ≡ u) (r : Room (u ∷ []) n l) where
   pub room-for-one : has w (units n l) ≡ false → 3 * n + 3 ≤ length l
+  unfolding addedAll
   room-for-one h = omega (arith, length-units n l, simp length-append at (ap length (added-new u (units n l) (rw e at h))))
 
-  pub taken-there : ((i : ℕ) → getD l i 0 < 256) → has w (units n l) ≡ true → Listing l l n (added u (units n l))
-  taken-there o h = rw (added-there u (units n l) (rw e at h)) (listing-start n l o room-so-far)
+  pub taken-there : ((i : ℕ) → getD l i 0 < 256) → has w (units n l) ≡ true → Taken (u ∷ []) n l n l
+  unfolding addedAll
+  taken-there o h =
+      let a = added-there u (units n l) (rw e at h) in
+      record { count = rw a (sym (length-units n l)); octets = rw a (units-stand n l o (room-so-far r)) }
 
-  pub taken-new : ((i : ℕ) → getD l i 0 < 256) → has w (units n l) ≡ false → {l′ : List ℕ} → l′ ≡ sets l (3 * n) (threeOctets w) → Listing l l′ (n + 1) (added u (units n l))
+  pub taken-new : ((i : ℕ) → getD l i 0 < 256) → has w (units n l) ≡ false → {l′ : List ℕ} → l′ ≡ sets l (3 * n) (threeOctets w) → Taken (u ∷ []) n l (n + 1) l′
+  unfolding addedAll
   taken-new o h {l′} s =
-      let b = listing-start n l o room-so-far in
-      rw (added-new u (units n l) (rw e at h)) (record {
-        count = rw (length-append, length-units);
-        octets = s ∙ rw e (written-more (units n l) l u (b .octets) (b .count) (room-for-one h));
-      })
+      let a = added-new u (units n l) (rw e at h) in
+      record {
+        count = rw (a, length-append, length-units);
+        octets = s ∙ rw (a, e) (written-more (units n l) l u (units-stand n l o (room-so-far r)) (sym (length-units n l)) (room-for-one h));
+      }

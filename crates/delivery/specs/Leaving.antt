@@ -10,7 +10,7 @@ use Rattle.rules.specs.Recipients.{serves, reached}
 use Rattle.delivery.specs.declared.Except.{Except}
 use Rattle.delivery.specs.declared.Except.the-variants.{Nobody, Sender}
 
-unfoldable pub leftOut : Except → ℕ → Bool
+abbrev pub leftOut : Except → ℕ → Bool
 leftOut Nobody u = false
 leftOut (Sender s) u = eqb u s
 

@@ -2,7 +2,7 @@
 use mathlib.Core.Path.{_≡_}
 use mathlib.Core.Bool.{Bool, true, false, cond, not, _&&_}
 use mathlib.Core.List.{List, [], _∷_, _++_}
-use Prim.Native.Nat.{ℕ, zero, suc}
+use Prim.Native.Nat.{ℕ, zero, suc, _*_, _≤_}
 use lib.Dec.{leb, ltb}
 use lib.ListN.{length, drop}
 use Rattle.rules.specs.Lists.{has, _&_}
@@ -36,3 +36,12 @@ lower f u b = cond (leb f u && ltb u b) u b
 pub record Listing (before after : List ℕ) (n : ℕ) (us : List ℕ) : Type 0 where
   pub count : n ≡ length us
   pub octets : after ≡ over (unitOctets us) before
+
+-- to the first n units of `before` the units vs were added: there are m now, in `after`
+pub record Taken (vs : List ℕ) (n : ℕ) (before : List ℕ) (m : ℕ) (after : List ℕ) : Type 0 where
+  pub count : m ≡ length (addedAll vs (units n before))
+  pub octets : after ≡ over (unitOctets (addedAll vs (units n before))) before
+
+-- .. and there is room for them
+pub record Room (vs : List ℕ) (n : ℕ) (l : List ℕ) : Type 0 where
+  pub room : 3 * length (addedAll vs (units n l)) ≤ length l
