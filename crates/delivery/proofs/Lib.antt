@@ -3,3 +3,4 @@ pub mod Units
 pub mod Listing
 pub mod Ordering
 pub mod Collecting
+pub mod Room

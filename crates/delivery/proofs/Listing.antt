@@ -1,7 +1,7 @@
 -- Laws of the recipients in a lent list: three octets and the unit's number, reading back what was written, one more recipient.
 use mathlib.Core.Path.{_≡_, refl, sym, ap, _∙_}
 use mathlib.Core.Bool.{true, false, false≢true}
-use mathlib.Core.List.{List, [], _∷_, _++_, flatMap, append-assoc}
+use mathlib.Core.List.{List, [], _∷_, _++_, flatMap, append-nil, append-assoc}
 use Prim.Native.Nat.{ℕ, zero, suc, _+_, _-_, _*_, _/_, _%_, _^_, _≤_, _<_}
 use native.Mathlib.Nat.{add-zero, add-assoc, zero-add, sub-zero}
 use native.Mathlib.Numerals.{add-one}
@@ -9,7 +9,7 @@ use native.Mathlib.Omega.{arith}
 use borrow.Author.Tests.{eqb-true}
 use lib.Dec.{eqb}
 use lib.ListN.{length, getD, take, drop, length-append, length-drop, take-append-drop}
-use lib.Seq.{getD-take, getD-drop, drop-drop, drop-append-add, length-take-le, take-at, drop-at, sets, sets-eq}
+use lib.Seq.{getD-take, getD-drop, drop-drop, drop-length, drop-append-add, length-take-le, take-at, drop-at, sets, sets-eq}
 use Rattle.rules.specs.Lists.{has}
 use Rattle.rules.specs.Octets.{octet, word, over}
 use Rattle.rules.specs.Units.{unitNumber, unitAt, threeOctets, unitOctets}
@@ -21,6 +21,11 @@ use Rattle.delivery.proofs.Units.{or-either, has-none, has-cons, added-
 pub length-over : (a l : List ℕ) → length a ≤ length l → length (over a l) ≡ length l
 unfolding over
 length-over a l h = rw (length-append, length-drop) (omega arith)
+
+-- .. as many as there are
+pub over-whole : (a l : List ℕ) → length a ≡ length l → over a l ≡ a
+unfolding over
+over-whole a l h = rw (h, drop-length, append-nil)
 
 pub over-over : (a b l : List ℕ) → length a ≤ length b → over b (over a l) ≡ over b l
 unfolding over
