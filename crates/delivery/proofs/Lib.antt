@@ -4,3 +4,4 @@ pub mod Listing
 pub mod Ordering
 pub mod Collecting
 pub mod Room
+pub mod Delivering

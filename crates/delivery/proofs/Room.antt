@@ -2,17 +2,18 @@
 use mathlib.Core.Path.{_≡_, refl, sym, ap, _∙_}
 use mathlib.Core.Bool.{Bool, true, false, false≢true, cond, not, _&&_, _||_}
 use mathlib.Core.List.{List, [], _∷_, _++_, map, flatMap}
-use Prim.Native.Nat.{ℕ, _+_, _*_, _≤_}
+use Prim.Native.Nat.{ℕ, _+_, _*_, _/_, _≤_}
 use native.Mathlib.Omega.{arith}
 use lib.Dec.{eqb}
 use lib.ListN.{length, length-append, length-map}
 use Rattle.rules.specs.Lists.{any, has, keep}
 use Rattle.rules.specs.Units.{unitAt}
-use Rattle.rules.specs.Tables.{Rec, used}
+use Rattle.rules.specs.Tables.{Rec, records, used}
 use Rattle.rules.specs.Sound.{toGroup, boundTo}
 use Rattle.rules.specs.Commands.{membersOf}
 use Rattle.rules.specs.Recipients.{serves, reached}
 use Rattle.rules.proofs.Lists.{and-parts, any-keep, any-map, any-flatMap}
+use Rattle.rules.proofs.Records.{length-records}
 use Rattle.delivery.specs.Listing.{units, addedAll, once, Room}
 use Rattle.delivery.specs.Leaving.{leaving, membersBut, boundBut}
 use Rattle.delivery.specs.declared.Except.{Except}
@@ -26,9 +27,9 @@ pub count-within : (vs ws : List ℕ) → Within vs ws → length (addedAll vs [
 unfolding once
 count-within vs ws w = fewer (addedAll vs []) ws (once-addedAll vs [] refl) (λ x h. w x (sym (has-addedAll x vs [] ∙ rw has-none) ∙ h))
 
-pub room-within : (vs ws : List ℕ) {l : List ℕ} → Within vs ws → 3 * length ws ≤ length l → Room vs 0 l
+pub room-within : {vs : List ℕ} {n : ℕ} {l : List ℕ} (ws : List ℕ) → n ≡ 0 → Within vs ws → 3 * length ws ≤ length l → Room vs n l
 unfolding units
-room-within vs ws w h = record { room = omega (arith, count-within vs ws w) }
+room-within {vs} ws z w h = rw z (record { room = omega (arith, count-within vs ws w) })
 
 -- A test that some element passes
 
@@ -52,9 +53,17 @@ unfolding membersOf used has
 members-all g ms x h =
     any-map (eqb x) (unitAt 2) ms ∙ any-kept _ _ ms (any-kept _ _ _ (sym (any-map (eqb x) (unitAt 2) _) ∙ h))
 
-pub members-within : (x : Except) (g : ℕ) (ms : List Rec) → Within (membersBut x g ms) (map (unitAt 2) ms)
-unfolding membersBut leaving has
-members-within x g ms u h = members-all g ms u (any-kept (eqb u) _ (membersOf ms g) h)
+-- the units of all member records
+unfoldable pub memberUnits : List ℕ → List ℕ
+memberUnits ms = map (unitAt 2) (records 5 ms)
+
+pub length-memberUnits : (ms : List ℕ) → length (memberUnits ms) ≡ length ms / 5
+unfolding memberUnits
+length-memberUnits ms = rw (length-map, length-records)
+
+pub members-within : (x : Except) (g : ℕ) (ms : List ℕ) → Within (membersBut x g (records 5 ms)) (memberUnits ms)
+unfolding membersBut leaving has memberUnits
+members-within x g ms u h = members-all g (records 5 ms) u (any-kept (eqb u) _ (membersOf (records 5 ms) g) h)
 
 -- Whom binds reach is named by a bind or is in a member record
 
@@ -66,9 +75,19 @@ reached-within ms b x = go (toGroup b)
     go true h = rw (members-all (boundTo b) ms x h) (or-true (eqb x (unitAt 5 b)))
     go false h = or-either (eqb x (unitAt 5 b)) (has x []) (sym (has-cons x (unitAt 5 b) []) ∙ h) (λ e. rw e) (λ e. absurd (false≢true (sym (has-none x) ∙ e)))
 
-pub bound-within : (x : Except) (m : List ℕ) (ms bs : List Rec) → Within (boundBut x m ms bs) (map (unitAt 5) bs ++ map (unitAt 2) ms)
-unfolding boundBut leaving used has
-bound-within x m ms bs u h =
-    let r = sym (any-flatMap (eqb u) (reached ms) _) ∙ any-kept (eqb u) _ (flatMap (reached ms) (keep (serves m) (used bs))) h in
-    let w = any-weaken (λ b. has u (reached ms b)) (λ b. eqb u (unitAt 5 b) || has u (map (unitAt 2) ms)) (λ b. reached-within ms b u) bs (any-kept _ _ bs (any-kept _ _ _ r)) in
-    has-append u (map (unitAt 5) bs) (map (unitAt 2) ms) ∙ rw (any-map (eqb u) (unitAt 5) bs) (any-or (λ b. eqb u (unitAt 5 b)) (has u (map (unitAt 2) ms)) bs w)
+-- the units of all binds and all member records
+unfoldable pub allUnits : List ℕ → List ℕ → List ℕ
+allUnits bs ms = map (unitAt 5) (records 8 bs) ++ memberUnits ms
+
+pub length-allUnits : (bs ms : List ℕ) → length (allUnits bs ms) ≡ length bs / 8 + length ms / 5
+unfolding allUnits
+length-allUnits bs ms = rw (length-append, length-map, length-records, length-memberUnits)
+
+pub bound-within : (x : Except) (m bs ms : List ℕ) → Within (boundBut x m (records 5 ms) (records 8 bs)) (allUnits bs ms)
+unfolding boundBut leaving used has allUnits memberUnits
+bound-within x m bs ms u h =
+    let M = records 5 ms in
+    let B = records 8 bs in
+    let r = sym (any-flatMap (eqb u) (reached M) _) ∙ any-kept (eqb u) _ (flatMap (reached M) (keep (serves m) (used B))) h in
+    let w = any-weaken (λ b. has u (reached M b)) (λ b. eqb u (unitAt 5 b) || has u (map (unitAt 2) M)) (λ b. reached-within M b u) B (any-kept _ _ B (any-kept _ _ _ r)) in
+    has-append u (map (unitAt 5) B) (map (unitAt 2) M) ∙ rw (any-map (eqb u) (unitAt 5) B) (any-or (λ b. eqb u (unitAt 5 b)) (has u (map (unitAt 2) M)) B w)
