@@ -1,0 +1,195 @@
+-- Laws of the recipients in a lent list: three octets and the unit's number, reading back what was written, one more recipient.
+use mathlib.Core.Path.{_≡_, refl, sym, ap, _∙_}
+use mathlib.Core.Bool.{true, false, false≢true}
+use mathlib.Core.List.{List, [], _∷_, _++_, flatMap, append-nil, append-assoc}
+use Prim.Native.Nat.{ℕ, zero, suc, _+_, _-_, _*_, _/_, _%_, _^_, _≤_, _<_}
+use native.Mathlib.Nat.{add-zero, add-assoc, zero-add, sub-zero}
+use native.Mathlib.Numerals.{add-one}
+use native.Mathlib.Omega.{arith}
+use borrow.Author.Tests.{eqb-true}
+use lib.Dec.{eqb}
+use lib.ListN.{length, getD, take, drop, length-append, length-drop, take-append-drop}
+use lib.Seq.{getD-take, getD-drop, drop-drop, drop-length, drop-append-add, length-take-le, take-at, drop-at, sets, sets-eq}
+use Rattle.rules.specs.Lists.{has}
+use Rattle.rules.specs.Octets.{octet, word, over}
+use Rattle.rules.specs.Units.{unitNumber, unitAt, threeOctets, unitOctets}
+use Rattle.delivery.specs.Listing.{units, added, addedAll, Taken, Room}
+use Rattle.delivery.proofs.Units.{or-either, has-none, has-cons, added-there, added-new, addedAll-grows}
+
+-- Octets written over octets
+
+pub length-over : (a l : List ℕ) → length a ≤ length l → length (over a l) ≡ length l
+unfolding over
+length-over a l h = rw (length-append, length-drop) (omega arith)
+
+-- .. as many as there are
+pub over-whole : (a l : List ℕ) → length a ≡ length l → over a l ≡ a
+unfolding over
+over-whole a l h = rw (h, drop-length, append-nil)
+
+pub over-over : (a b l : List ℕ) → length a ≤ length b → over b (over a l) ≡ over b l
+unfolding over
+over-over a b l h =
+    let m : length b ≡ length a + (length b - length a) = omega arith in
+    ap (λ (s : List ℕ). b ++ s) (rw (m, drop-append-add, drop-drop))
+
+-- A unit and its octets
+
+-- octet j of a record
+pub octet-at : (k at j : ℕ) (t : List ℕ) → j < k → octet j (take k (drop at t)) ≡ octet (at + j) t
+octet-at k at j t h = getD-take k (drop at t) j 0 h ∙ getD-drop at t j 0
+
+-- the unit from place i on of a record
+pub unit-in : (k at i : ℕ) (t : List ℕ) → i + 3 ≤ k → unitAt i (take k (drop at t)) ≡ unitAt (at + i) t
+unfolding unitAt unitNumber word
+unit-in k at i t h =
+    rw (octet-at k at i t (omega arith), octet-at k at (i + 1) t (omega arith), octet-at k at (i + 2) t (omega arith), ← add-assoc, ← add-assoc)
+
+unit-drop : (at : ℕ) (l : List ℕ) → unitAt 0 (drop at l) ≡ unitAt at l
+unfolding unitAt unitNumber word
+unit-drop at l = simp (getD-drop, add-zero)
+
+unit-read : (u : ℕ) (l : List ℕ) → unitAt 0 (threeOctets u ++ l) ≡ u
+unfolding unitAt unitNumber word threeOctets
+unit-read u l = omega arith
+
+-- Units and their octets
+
+pub length-unitOctets : (us : List ℕ) → length (unitOctets us) ≡ 3 * length us
+unfolding unitOctets threeOctets flatMap
+length-unitOctets [] = refl
+length-unitOctets (u ∷ us) = omega (arith, length-unitOctets us)
+
+unitOctets-append : (us vs : List ℕ) → unitOctets (us ++ vs) ≡ unitOctets us ++ unitOctets vs
+unfolding unitOctets flatMap
+unitOctets-append [] vs = refl
+unitOctets-append (u ∷ us) vs = rw (unitOctets-append us vs) (sym (append-assoc (threeOctets u) _ _))
+
+unitOctets-more : (us : List ℕ) (u : ℕ) → unitOctets (us ++ u ∷ []) ≡ unitOctets us ++ threeOctets u
+unfolding unitOctets flatMap threeOctets
+unitOctets-more us u = unitOctets-append us (u ∷ [])
+
+pub length-units : (n : ℕ) (l : List ℕ) → length (units n l) ≡ n
+unfolding units
+length-units zero l = refl
+length-units (suc n) l = ap suc (length-units n (drop 3 l))
+
+units-front : (us l : List ℕ) → units (length us) (unitOctets us ++ l) ≡ us
+unfolding units unitOctets flatMap threeOctets
+units-front [] l = refl
+units-front (u ∷ us) l = rw (unit-read u (unitOctets us ++ l), units-front us l)
+
+-- what was written reads back
+pub units-written : (us l : List ℕ) → units (length us) (over (unitOctets us) l) ≡ us
+unfolding over
+units-written us l = units-front us (drop (length (unitOctets us)) l)
+
+-- octets that are read and written again are the same
+octets-units : (n : ℕ) (l : List ℕ) → ((i : ℕ) → getD l i 0 < 256) → 3 * n ≤ length l → unitOctets (units n l) ≡ take (3 * n) l
+unfolding units unitOctets flatMap threeOctets unitAt unitNumber word
+octets-units zero l o h = refl
+octets-units (suc n) [] o h = absurd (omega arith)
+octets-units (suc n) (a ∷ []) o h = absurd (omega arith)
+octets-units (suc n) (a ∷ b ∷ []) o h = absurd (omega arith)
+octets-units (suc n) (a ∷ b ∷ c ∷ l) o h =
+    let m : 3 * suc n ≡ suc (suc (suc (3 * n))) = omega arith in
+    let x : ((a * 256 + b) * 256 + c) / 65536 ≡ a = omega (arith, o 0, o 1, o 2) in
+    let y : ((a * 256 + b) * 256 + c) / 256 % 256 ≡ b = omega (arith, o 0, o 1, o 2) in
+    let z : ((a * 256 + b) * 256 + c) % 256 ≡ c = omega (arith, o 0, o 1, o 2) in
+    rw (m, x, y, z, octets-units n l (λ i. o (suc (suc (suc i)))) (omega arith))
+
+-- octets behind them make no difference, so a copy of them has the same units
+units-append : (n : ℕ) (l z : List ℕ) → 3 * n ≤ length l → units n (l ++ z) ≡ units n l
+unfolding units unitAt unitNumber word
+units-append zero l z h = refl
+units-append (suc n) [] z h = absurd (omega arith)
+units-append (suc n) (a ∷ []) z h = absurd (omega arith)
+units-append (suc n) (a ∷ b ∷ []) z h = absurd (omega arith)
+units-append (suc n) (a ∷ b ∷ c ∷ l) z h = rw (units-append n l z (omega arith))
+
+pub units-copied : (n : ℕ) (l z : List ℕ) → 3 * n ≤ length l → units n (over (take (3 * n) l) z) ≡ units n l
+unfolding over
+units-copied n l z h =
+    let k : 3 * n ≤ length (take (3 * n) l) = rw (length-take-le (3 * n) l h) (omega arith) in
+    let e : units n (take (3 * n) l ++ drop (3 * n) l) ≡ units n l = ap (units n) (take-append-drop (3 * n) l) in
+    units-append n (take (3 * n) l) _ k ∙ sym (units-append n (take (3 * n) l) (drop (3 * n) l) k) ∙ e
+
+-- a unit in octets is below 2 ^ 24
+pub has-small : (n : ℕ) (l : List ℕ) (u : ℕ) → ((i : ℕ) → getD l i 0 < 256) → has u (units n l) ≡ true → u < 2 ^ 24
+unfolding units unitAt unitNumber word
+has-small zero l u o h = absurd (false≢true (sym (has-none u) ∙ h))
+has-small (suc n) l u o h =
+    or-either (eqb u (unitAt 0 l)) (has u (units n (drop 3 l))) (sym (has-cons u (unitAt 0 l) (units n (drop 3 l))) ∙ h)
+    (λ e. omega (arith, eqb-true u (unitAt 0 l) e, o 0, o 1, o 2))
+    (has-small n (drop 3 l) u (λ i. rw getD-drop (o (3 + i))))
+
+-- The units from place i on of the first n
+
+unfoldable pub unitsFrom : ℕ → ℕ → List ℕ → List ℕ
+unitsFrom i n l = units (n - i) (drop (3 * i) l)
+
+pub from-start : (n : ℕ) (l : List ℕ) → unitsFrom 0 n l ≡ units n l
+unfolding unitsFrom
+from-start n l = rw sub-zero
+
+pub from-at : (i n : ℕ) (l : List ℕ) → i < n → unitsFrom i n l ≡ unitAt (3 * i) l ∷ unitsFrom (i + 1) n l
+unfolding unitsFrom units
+from-at i n l h =
+    let m : n - i ≡ suc (n - (i + 1)) = omega arith in
+    let k : 3 * (i + 1) ≡ 3 * i + 3 = omega arith in
+    rw (m, k, unit-drop, drop-drop)
+
+pub from-end : (i n : ℕ) (l : List ℕ) → n ≤ i → unitsFrom i n l ≡ []
+unfolding unitsFrom units
+from-end i n l h =
+    let m : n - i ≡ 0 = omega arith in
+    rw m
+
+-- The state of a list: one more unit behind the others
+
+pub written-more : (us l₀ : List ℕ) {l : List ℕ} {n : ℕ} (u : ℕ) → l ≡ over (unitOctets us) l₀ → n ≡ length us → 3 * n + 3 ≤ length l₀
+    → sets l (3 * n) (threeOctets u) ≡ over (unitOctets (us ++ u ∷ [])) l₀
+unfolding over threeOctets
+written-more us l₀ {l} {n} u e c h =
+    let a : length (unitOctets us) ≡ 3 * n = length-unitOctets us ∙ ap (λ (x : ℕ). 3 * x) (sym c) in
+    let f : l ≡ unitOctets us ++ drop (3 * n) l₀ = e ∙ rw a in
+    let g : length l ≡ length l₀ = ap length f ∙ rw (length-append, a, length-drop) (omega arith) in
+    let k : length (unitOctets (us ++ u ∷ [])) ≡ 3 * n + 3 = length-unitOctets (us ++ u ∷ []) ∙ rw (length-append) (omega arith) in
+    let d : drop (3 * n + 3) l ≡ drop (3 * n + 3) l₀ = rw (f, ← drop-drop 3 (3 * n), drop-at (unitOctets us) _ (3 * n) a) (drop-drop 3 (3 * n) l₀) in
+    let t : take (3 * n) l ≡ unitOctets us = rw f (take-at (unitOctets us) _ (3 * n) a) in
+    sets-eq (threeOctets u) l (3 * n) (omega arith) ∙ rw (k, d, t, unitOctets-more)
+
+-- as it is lent, its units are written over it
+pub units-stand : (n : ℕ) (l : List ℕ) → ((i : ℕ) → getD l i 0 < 256) → 3 * n ≤ length l → l ≡ over (unitOctets (units n l)) l
+unfolding over
+units-stand n l o h = rw (octets-units n l o h, length-take-le (3 * n) l h) (sym (take-append-drop (3 * n) l))
+
+-- Taking units
+
+pub room-so-far : {vs : List ℕ} {n : ℕ} {l : List ℕ} → Room vs n l → 3 * n ≤ length l
+room-so-far {vs} {n} {l} r = omega (arith, length-units n l, addedAll-grows vs (units n l))
+
+pub taken-none : {vs : List ℕ} {n : ℕ} {l : List ℕ} → vs ≡ [] → ((i : ℕ) → getD l i 0 < 256) → Room vs n l → Taken vs n l n l
+unfolding addedAll
+taken-none {vs} {n} {l} e o r = rw e (record { count = sym (length-units n l); octets = units-stand n l o (room-so-far r) })
+
+-- a unit u, whose number in the code is w
+module _ {u w n : ℕ} {l : List ℕ} (e : w ≡ u) (r : Room (u ∷ []) n l) where
+  pub room-for-one : has w (units n l) ≡ false → 3 * n + 3 ≤ length l
+  unfolding addedAll
+  room-for-one h = omega (arith, length-units n l, simp length-append at (ap length (added-new u (units n l) (rw e at h))))
+
+  pub taken-there : ((i : ℕ) → getD l i 0 < 256) → has w (units n l) ≡ true → Taken (u ∷ []) n l n l
+  unfolding addedAll
+  taken-there o h =
+      let a = added-there u (units n l) (rw e at h) in
+      record { count = rw a (sym (length-units n l)); octets = rw a (units-stand n l o (room-so-far r)) }
+
+  pub taken-new : ((i : ℕ) → getD l i 0 < 256) → has w (units n l) ≡ false → {l′ : List ℕ} → l′ ≡ sets l (3 * n) (threeOctets w) → Taken (u ∷ []) n l (n + 1) l′
+  unfolding addedAll
+  taken-new o h {l′} s =
+      let a = added-new u (units n l) (rw e at h) in
+      record {
+        count = rw (a, length-append, length-units);
+        octets = s ∙ rw (a, e) (written-more (units n l) l u (units-stand n l o (room-so-far r)) (sym (length-units n l)) (room-for-one h));
+      }
