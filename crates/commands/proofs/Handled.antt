@@ -6,14 +6,16 @@ use Prim.Native.Nat.{ℕ, _≤_, _<_}
 use native.Mathlib.Omega.{arith}
 use borrow.Author.Tests.{eq-eqb, ne-eqb, lt-leb, le-leb, leb-true}
 use lib.Dec.{eqb, leb}
+use lib.ListN.{length}
 use Rattle.rules.specs.Lists.{any, ask}
 use Rattle.rules.specs.Names.{ok, invalidArgument, notEnoughResources}
-use Rattle.rules.specs.Tables.{Rec, records, used, room?, matches, addressed, Change, wipe, written}
-use Rattle.rules.specs.Octets.{octet, octets}
+use Rattle.rules.specs.Tables.{Rec, records, used, room?, matches, addressed, Change, store, wipe, written}
+use Rattle.rules.specs.Octets.{octet, octets, over}
 use Rattle.rules.specs.Exists.{groupExists}
 use Rattle.rules.specs.Sound.{bindFits, memberFits}
+use Rattle.rules.specs.Commands.{newGroup, groupRecord}
 use Rattle.rules.specs.declared.Code.{Code}
-use Rattle.commands.specs.Handlers.{Decided, decided, onOk, deciding, addition, removal, bindAddition, memberAddition, creation, Freed, deleted, deletion, deleting}
+use Rattle.commands.specs.Handlers.{Decided, decided, onOk, deciding, addition, removal, bindAddition, memberAddition, creation, Freed, deleted, deletion, deleting, createdPayload, made, making}
 
 pub changes : (k : ℕ) {c d : Code} (x : Change) (t : List ℕ) {t' : List ℕ} → c ≡ d → c .0 ≡ 0 → t' ≡ written k x t → decided c t' ≡ deciding k d x t
 unfolding deciding onOk
@@ -103,3 +105,11 @@ member-unfit ds gs m t h = rw h
 pub member-fit : (ds gs : List Rec) (m : Rec) (t : List Rec) → memberFits ds gs m ≡ true → addition m t ≡ memberAddition ds gs m t
 unfolding memberAddition ask
 member-fit ds gs m t h = rw h
+
+-- Create Group whole
+pub makes : {g n : ℕ} (gs p out : List ℕ) {c : Code} {gs' out' : List ℕ} → g ≡ newGroup (records 16 gs)
+    → decided c gs' ≡ deciding 16 (creation p (records 16 gs)) (store (groupRecord g p)) gs
+    → (n ≡ length (createdPayload c g)) × (out' ≡ over (createdPayload c g) out) → made n gs' out' ≡ making gs p out
+unfolding making deciding
+makes {g} {n} gs p out {c} {gs'} {out'} e d w =
+    rw (← e, w .0, w .1, ap (λ (y : Decided). y .code) d, ap (λ (y : Decided). y .table) d)

@@ -2,4 +2,6 @@
 pub mod Decoded
 pub mod Handled
 pub mod Smallest
+pub mod Sizes
+pub mod Informing
 pub mod Performing

@@ -19,7 +19,8 @@ use Rattle.rules.specs.declared.Kind.the-variants.{Devices, Binds, Groups, Memb
 use Rattle.rules.specs.declared.Code.{Code}
 use Rattle.rules.specs.declared.Command.{Command}
 use Rattle.rules.specs.declared.Command.the-variants.{AddBind, RemoveBinds, CreateGroup, DeleteGroup, AddToGroup, RemoveFromGroup, GetGroupInfo, Other}
-use Rattle.commands.specs.Handlers.{Decided, decided, onOk, deciding, addition, bindAddition, memberAddition, removal, creation, createdPayload, Deleted, deleted, deletion, deleting, infoPayload}
+use Rattle.rules.proofs.Kept.{lentOf}
+use Rattle.commands.specs.Handlers.{Decided, decided, onOk, deciding, addition, bindAddition, memberAddition, removal, creation, createdPayload, Deleted, deleted, deletion, deleting, infoPayload, Made, made, making}
 use Rattle.commands.specs.Perform.{Performed, performed, performance, payloadOf, effectOf, acting, Served}
 
 -- nothing changes no octet
@@ -56,20 +57,14 @@ only Binds x = effects none x none none
 only Groups x = effects none none x none
 only Members x = effects none none none x
 
-unfoldable pub tableOf : Kind → Lent → List ℕ
-tableOf Devices L = L .devices
-tableOf Binds L = L .binds
-tableOf Groups L = L .groups
-tableOf Members L = L .members
-
 unfoldable pub withTable : Kind → List ℕ → Lent → Lent
 withTable Devices t L = lent t (L .binds) (L .groups) (L .members)
 withTable Binds t L = lent (L .devices) t (L .groups) (L .members)
 withTable Groups t L = lent (L .devices) (L .binds) t (L .members)
 withTable Members t L = lent (L .devices) (L .binds) (L .groups) t
 
-changed-only : (i : Kind) (x : Change) (L : Lent) → changed (only i x) L ≡ withTable i (written (size i) x (tableOf i L)) L
-unfolding changed only tableOf withTable written
+changed-only : (i : Kind) (x : Change) (L : Lent) → changed (only i x) L ≡ withTable i (written (size i) x (lentOf i L)) L
+unfolding changed only withTable written
 changed-only Devices x L = refl
 changed-only Binds x L = refl
 changed-only Groups x L = refl
@@ -92,12 +87,12 @@ effect-one i T k p c x e = step (eqb (c .0) (ok .0))
 
 -- a handler with one table
 pub acts-on : (i : Kind) (L : Lent) (k : Command) (p out : List ℕ) (x : Change) {c : Code} {t : List ℕ} → effect (tables L) k p ≡ only i x → granting (tables L) k p ≡ ok .0 ∷ []
-    → decided c t ≡ deciding (size i) (verdict (tables L) k p) x (tableOf i L) → performed 1 (withTable i t L) (over (c .0 ∷ []) out) ≡ acting L k p out
+    → decided c t ≡ deciding (size i) (verdict (tables L) k p) x (lentOf i L) → performed 1 (withTable i t L) (over (c .0 ∷ []) out) ≡ acting L k p out
 unfolding acting payloadOf deciding
 acts-on i L k p out x {c} {t} e g d =
     let v : Code = verdict (tables L) k p in
     let ec : c ≡ v = ap (λ (y : Decided). y .code) d in
-    let et : t ≡ written (size i) (onOk v x) (tableOf i L) = ap (λ (y : Decided). y .table) d in
+    let et : t ≡ written (size i) (onOk v x) (lentOf i L) = ap (λ (y : Decided). y .table) d in
     rw (effect-one i (tables L) k p v x e, changed-only i (onOk v x) L, g, code-alone (v .0), ec, et)
 
 -- a change of three tables, made or not
@@ -112,42 +107,33 @@ module _ (L : Lent) (p out : List ℕ) where
   pub acts-add-bind : {c : Code} {bs : List ℕ}
       → decided c bs ≡ deciding 8 (bindAddition (tables L .devices) (tables L .groups) (bindOf p) (tables L .binds)) (store (bindOf p)) (L .binds)
       → performed 1 (withTable Binds bs L) (over (c .0 ∷ []) out) ≡ acting L AddBind p out
-  unfolding verdict bindAddition addition effect only granting tableOf
+  unfolding verdict bindAddition addition effect only granting
   acts-add-bind d = acts-on Binds L AddBind p out (store (bindOf p)) refl refl d
 
   pub acts-remove-binds : (from n : ℕ) {c : Code} {bs : List ℕ}
       → decided c bs ≡ deciding 8 (removal from (wanted from p) (tables L .binds)) (wipe (matches from (wanted from p))) (L .binds)
       → performed 1 (withTable Binds bs L) (over (c .0 ∷ []) out) ≡ acting L (RemoveBinds from n) p out
-  unfolding verdict removal effect only granting tableOf
+  unfolding verdict removal effect only granting
   acts-remove-binds from n d = acts-on Binds L (RemoveBinds from n) p out (wipe (matches from (wanted from p))) refl refl d
 
   pub acts-add-to-group : {c : Code} {ms : List ℕ}
       → decided c ms ≡ deciding 5 (memberAddition (tables L .devices) (tables L .groups) (memberOf p) (tables L .members)) (store (memberOf p)) (L .members)
       → performed 1 (withTable Members ms L) (over (c .0 ∷ []) out) ≡ acting L AddToGroup p out
-  unfolding verdict memberAddition addition effect only granting tableOf
+  unfolding verdict memberAddition addition effect only granting
   acts-add-to-group d = acts-on Members L AddToGroup p out (store (memberOf p)) refl refl d
 
   pub acts-remove-from-group : {c : Code} {ms : List ℕ}
       → decided c ms ≡ deciding 5 (removal 0 (memberOf p) (tables L .members)) (wipe (matches 0 (memberOf p))) (L .members)
       → performed 1 (withTable Members ms L) (over (c .0 ∷ []) out) ≡ acting L RemoveFromGroup p out
-  unfolding verdict removal effect only granting tableOf
+  unfolding verdict removal effect only granting
   acts-remove-from-group d = acts-on Members L RemoveFromGroup p out (wipe (matches 0 (memberOf p))) refl refl d
 
-  pub acts-create-group : (g : ℕ) {c : Code} {gs : List ℕ} → g ≡ newGroup (tables L .groups)
-      → decided c gs ≡ deciding 16 (creation p (tables L .groups)) (store (groupRecord g p)) (L .groups)
-      → performed (length (createdPayload c g)) (withTable Groups gs L) (over (createdPayload c g) out) ≡ acting L CreateGroup p out
-  unfolding acting payloadOf verdict creation deciding granting createdPayload effect only tableOf
-  acts-create-group g {c} {gs} e d =
+  pub acts-create-group : {n : ℕ} {gs out' : List ℕ} → made n gs out' ≡ making (L .groups) p out → performed n (withTable Groups gs L) out' ≡ acting L CreateGroup p out
+  unfolding acting payloadOf verdict making creation granting createdPayload effect only tables
+  acts-create-group {n} {gs} {out'} d =
       let v : Code = verdict (tables L) CreateGroup p in
-      let ec : c ≡ v = ap (λ (y : Decided). y .code) d in
-      let et : gs ≡ written 16 (onOk v (store (groupRecord g p))) (L .groups) = ap (λ (y : Decided). y .table) d in
-      rw (
-        effect-one Groups (tables L) CreateGroup p v (store (groupRecord (newGroup (tables L .groups)) p)) refl,
-        changed-only Groups (onOk v (store (groupRecord (newGroup (tables L .groups)) p))) L,
-        ← e,
-        ec,
-        et,
-      )
+      let x : Change = store (groupRecord (newGroup (tables L .groups)) p) in
+      rw (effect-one Groups (tables L) CreateGroup p v x refl, changed-only Groups (onOk v x) L, ap (λ (y : Made). y .length) d, ap (λ (y : Made). y .groups) d, ap (λ (y : Made). y .out) d)
 
   pub acts-delete-group : {c : Code} {bs gs ms : List ℕ} → deleted c bs gs ms ≡ deleting (groupNamed p) (L .binds) (L .groups) (L .members)
       → performed 1 (lent (L .devices) bs gs ms) (over (c .0 ∷ []) out) ≡ acting L DeleteGroup p out
@@ -220,3 +206,20 @@ served m =
     (either (eqb (number (interface m)) groupManagement) (groupCommand (member m)) Other (served-group (member m)) tt))
     tt)
     tt
+
+-- rights are asked of the devices alone
+pub rights-of : (ds bs gs ms : List ℕ) (s : ℕ) (k : Command) → rightsFit (tables (lent ds [] [] [])) s k ≡ rightsFit (tables (lent ds bs gs ms)) s k
+unfolding rightsFit tables
+rights-of ds bs gs ms s AddBind = refl
+rights-of ds bs gs ms s (RemoveBinds from n) = refl
+rights-of ds bs gs ms s CreateGroup = refl
+rights-of ds bs gs ms s DeleteGroup = refl
+rights-of ds bs gs ms s AddToGroup = refl
+rights-of ds bs gs ms s RemoveFromGroup = refl
+rights-of ds bs gs ms s GetGroupInfo = refl
+rights-of ds bs gs ms s Other = refl
+
+-- no other message is ever judged
+pub acts-other : (L : Lent) (p out : List ℕ) → performed 1 L (over (invalidArgument .0 ∷ []) out) ≡ acting L Other p out
+unfolding acting payloadOf effectOf verdict changed nothing written
+acts-other L p out = refl

@@ -1,18 +1,19 @@
 -- What a handler answers: the code of its checks, and the table that it was lent, changed where the code is 0x00.
 use mathlib.Core.Path.{_≡_}
 use mathlib.Core.Bool.{Bool, cond, not}
-use mathlib.Core.List.{List, [], _∷_}
+use mathlib.Core.List.{List, [], _∷_, _++_}
 use Prim.Native.Nat.{ℕ}
 use lib.Dec.{eqb, leb}
+use lib.ListN.{length, take, drop}
 use Rattle.rules.specs.Lists.{any, firstOf, ask}
-use Rattle.rules.specs.Octets.{octet, octets, joined}
+use Rattle.rules.specs.Octets.{octet, octets, joined, over}
 use Rattle.rules.specs.Names.{ok, invalidArgument, notEnoughResources}
 use Rattle.rules.specs.Tables.{Rec, records, used, room?, matches, addressed, size, Change, none, store, wipe, written}
 use Rattle.rules.specs.declared.Kind.the-variants.{Binds, Groups, Members}
 use Rattle.rules.specs.Units.{ordered}
 use Rattle.rules.specs.Exists.{groupExists}
 use Rattle.rules.specs.Sound.{bindFits, memberFits}
-use Rattle.rules.specs.Commands.{membersOf, info}
+use Rattle.rules.specs.Commands.{membersOf, info, newGroup, groupRecord}
 use Rattle.rules.specs.declared.Code.{Code}
 
 pub record Decided : Type 0 where
@@ -84,9 +85,31 @@ memberAddition ds gs m t = ask (memberFits ds gs m) invalidArgument (addition m 
 unfoldable pub createdPayload : Code → ℕ → List ℕ
 createdPayload c g = cond (eqb (c .0) (ok .0)) (ok .0 ∷ octets g) (c .0 ∷ [])
 
+-- what stands before the members in Get Group Info's reply
+unfoldable pub infoHead : Rec → ℕ → List ℕ
+infoHead r n = ok .0 ∷ octet 2 r ∷ take (octet 2 r) (drop 3 r) ++ octets n
+
 -- Get Group Info's reply
 unfoldable pub infoPayload : ℕ → List Rec → List Rec → List ℕ
 infoPayload g gs ms =
     cond (groupExists gs g)
     (info (firstOf [] (addressed g) (used gs)) (ordered (membersOf ms g)))
     (invalidArgument .0 ∷ [])
+
+-- Create Group whole: its reply's payload, the group table and the part of the reply after it
+pub record Made : Type 0 where
+  pub length : ℕ
+  pub groups : List ℕ
+  pub out : List ℕ
+
+abbrev pub made : ℕ → List ℕ → List ℕ → Made
+made n gs out = record { length = n; groups = gs; out = out }
+
+unfoldable pub making : List ℕ → List ℕ → List ℕ → Made
+making gs p out =
+    let c : Code = creation p (records (size Groups) gs) in
+    let g : ℕ = newGroup (records (size Groups) gs) in
+    made
+    (length (createdPayload c g))
+    (written (size Groups) (onOk c (store (groupRecord g p))) gs)
+    (over (createdPayload c g) out)

@@ -1,5 +1,6 @@
 // The commands of Group Management that change tables (document 01, Commands and codes).
 use crate::changes;
+use crate::checks;
 use crate::decode;
 use rules::Code;
 use rules::GroupAddress;
@@ -9,7 +10,7 @@ ghost use lib.ListN.{length};
 ghost use Rattle.rules.specs.Octets.{octet};
 ghost use Rattle.rules.specs.Tables.{records, matches, wipe, store};
 ghost use Rattle.rules.specs.Commands.{newGroup, memberOf, groupNamed, groupRecord};
-ghost use Rattle.commands.specs.Handlers.{decided, deciding, removal, memberAddition, creation, Freed, deleted, deleting};
+ghost use Rattle.commands.specs.Handlers.{decided, deciding, removal, memberAddition, creation, Freed, deleted, deleting, made, making};
 
 // The smallest address from 0x0001 that no group has.
 fn new_group(groups: &[u8]) -> u16
@@ -99,4 +100,14 @@ pub fn add_to_group(devices: &[u8], groups: &[u8], members: &mut [u8], payload: 
         return Code::INVALID_ARGUMENT;
     }
     changes::add(members, 5, &member)
+}
+
+// Create Group whole: the smallest address not in use, the record, and the reply.
+pub fn create(groups: &mut [u8], payload: &[u8], out: &mut [u8]) -> usize
+    requires { ⌜ (length (now payload) ≡ 1 + octet 0 (now payload)) × (length (now groups) % 16 ≡ 0) × (length (now groups) ≤ 256) × (3 ≤ length (now out)) ⌝ }
+    ensures { λ r. ⌜ made r (now (groups .exit)) (now (out .exit)) ≡ making (now (groups .entry)) (now (payload .entry)) (now (out .entry)) ⌝ }
+{
+    let group = GroupAddress(new_group(groups));
+    let code = create_group(groups, group, payload);
+    checks::write_created(out, code, group)
 }

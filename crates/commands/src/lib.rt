@@ -4,5 +4,8 @@ mod changes;
 mod checks;
 mod decode;
 mod groups;
+mod info;
+mod whole;
 
 pub use decode::command_of;
+pub use whole::perform;

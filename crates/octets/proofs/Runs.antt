@@ -107,3 +107,8 @@ unfolding over
 sets-over r t h =
     let z : 0 + length r ≡ length r = zero-add (length r) in
     rw (sets-eq r t 0 (rw zero-add h), z)
+
+-- one run written behind another is both written as one
+pub sets-behind : (t a b : List ℕ) (i : ℕ) {j : ℕ} → i + length a ≡ j → sets (sets t i a) j b ≡ sets t i (a ++ b)
+sets-behind t [] b i {j} h = let e : j ≡ i = omega arith in rw e
+sets-behind t (x ∷ a) b i h = sets-behind (set t i x) a b (suc i) (omega arith)

@@ -1,0 +1,34 @@
+-- `commands::info::write_head` meets its contract: three runs, one behind the other.
+use denote.Ref.{now}
+use Rattle.commands.proofs.Informing.{head-written}
+use borrow.Author.Needs.{needs}
+use Rattle.commands.proofs.info.write_head.Statement.{statement}
+use Rattle.commands.proofs.info.write_head.Tie as tie
+
+returns : tie.Need-returns
+returns c =
+    let start = c .before .before .before .before .before .before .before .before .before .before .before .before .before .before .before .before .before .before .before .before in
+    rw (c .before .before .write-at3 .ensures, c .before .before .before .before .address-octets .ensures, c .before .before .before .before .before .before .before .before .write-at2 .ensures, c .before .before .before .before .before .before .before .before .before .before .before .before .before .write-at .ensures)
+    (head-written (now (start .args .«record»)) (now (start .args .out)) (start .args .count) (start .pre .0) (start .pre .1) (start .pre .3))
+
+pub write-head-spec : {M : Type 1} → statement M
+write-head-spec =
+    tie.close
+    (tie.spec
+    (λ c. search needs)
+    (λ c. search needs)
+    (λ c. search needs)
+    (λ c. search needs)
+    (λ c. search needs)
+    (λ c. search needs)
+    (λ c κs. search needs)
+    (λ c. search needs)
+    (λ c. search needs)
+    (λ c. search needs)
+    (λ c κs. search needs)
+    (λ c. search needs)
+    (λ c κs. search needs)
+    (λ c. search needs)
+    (λ c κs. search needs)
+    (λ c. search needs)
+    returns)
