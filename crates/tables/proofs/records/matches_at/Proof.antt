@@ -1,6 +1,4 @@
 -- `tables::matches_at` meets its contract. A record is tested where it stands in the table.
-use mathlib.Core.Path.{_≡_}
-use mathlib.Core.Bool.{not, _&&_}
 use native.Mathlib.Omega.{arith}
 use borrow.Author.Needs.{needs}
 use Rattle.rules.specs.Tables.{free?}
