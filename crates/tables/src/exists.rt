@@ -9,7 +9,7 @@ ghost use Prim.Native.Nat.{_+_, _≤_};
 ghost use lib.ListN.{length, take, drop};
 ghost use Rattle.rules.specs.Lists.{any};
 ghost use Rattle.rules.specs.Octets.{octets};
-ghost use Rattle.rules.specs.Tables.{records, used, size};
+ghost use Rattle.rules.specs.Tables.{records, used, addressed, size};
 ghost use Rattle.rules.specs.Exists.{admitted, hasUnit, unitExists, hasRights, groupExists};
 ghost use Rattle.rules.specs.declared.Kind.the-variants.{Devices, Groups};
 ghost use Rattle.tables.specs.Search.{passes};
@@ -21,11 +21,19 @@ pub fn address_octets(w: u16) -> [u8; 2]
     [octets::high(w), octets::low(w)]
 }
 
+// Does a record of the table begin with this address?
+fn has_address(table: &[u8], size: usize, address: u16) -> bool
+    requires { ⌜ 2 ≤ size ⌝ }
+    ensures { λ r. ⌜ r ≡ any (addressed address) (used (records size (now (table .entry)))) ⌝ }
+{
+    records::has(table, size, 0, &address_octets(address))
+}
+
 // Is the device in the table?
 pub fn is_admitted(devices: &[u8], device: DeviceAddress) -> bool
     ensures { λ r. ⌜ r ≡ admitted (records (size Devices) (now (devices .entry))) (device .0) ⌝ }
 {
-    records::has(devices, DEVICE, 0, &address_octets(device.0))
+    has_address(devices, DEVICE, device.0)
 }
 
 // Is the record at `at` this device's, with this unit? "An admitted device has units 0 to its highest."
@@ -76,5 +84,5 @@ pub fn has_rights(devices: &[u8], device: DeviceAddress) -> bool
 pub fn group_exists(groups: &[u8], group: GroupAddress) -> bool
     ensures { λ r. ⌜ r ≡ groupExists (records (size Groups) (now (groups .entry))) (group .0) ⌝ }
 {
-    records::has(groups, GROUP, 0, &address_octets(group.0))
+    has_address(groups, GROUP, group.0)
 }

@@ -4,15 +4,26 @@ ghost use mathlib.Core.Path.{_≡_};
 ghost use Prim.Native.Nat.{_+_, _%_, _<_, _≤_};
 ghost use lib.ListN.{length, take, drop};
 ghost use Rattle.rules.specs.Lists.{any};
-ghost use Rattle.rules.specs.Tables.{records, used, room?, matches, written, store, wipe};
+ghost use Rattle.rules.specs.Tables.{records, free?, used, room?, matches, written, store, wipe};
 ghost use Rattle.tables.specs.Search.{passes, foundAt};
+
+// "A free record is all 0xFF."
+const FREE: u8 = 0xFF;
+
+// Is the record at `at` free?
+pub fn free_at(table: &[u8], size: usize, at: usize) -> bool
+    requires { ⌜ at + size ≤ length (now table) ⌝ }
+    ensures { λ r. ⌜ r ≡ free? (take size (drop at (now (table .entry)))) ⌝ }
+{
+    octets::all_at(table, at, size, FREE)
+}
 
 // Is the record at `at` in use, with `want` from its place `from` on? A free record is never a match.
 pub fn matches_at(table: &[u8], size: usize, at: usize, from: usize, want: &[u8]) -> bool
     requires { ⌜ (at + size ≤ length (now table)) × (from + length (now want) ≤ size) ⌝ }
     ensures { λ r. ⌜ r ≡ passes (matches from (now (want .entry))) (take size (drop at (now (table .entry)))) ⌝ }
 {
-    let free = octets::all_at(table, at, size, 0xFF);
+    let free = free_at(table, size, at);
     let same = octets::same_at(table, at + from, want);
     !free & same
 }
@@ -60,7 +71,7 @@ pub fn has_room(table: &[u8], size: usize) -> bool
 {
     let mut at = 0;
     while size <= table.len() - at {
-        if octets::all_at(table, at, size, 0xFF) {
+        if free_at(table, size, at) {
             return true;
         }
         at += size;
@@ -75,7 +86,7 @@ pub fn store(table: &mut [u8], size: usize, record: &[u8])
 {
     let mut at = 0;
     while size <= table.len() - at {
-        if octets::all_at(table, at, size, 0xFF) {
+        if free_at(table, size, at) {
             octets::write_at(table, at, record);
             return;
         }
@@ -91,7 +102,7 @@ pub fn free_matching(table: &mut [u8], size: usize, from: usize, want: &[u8])
     let mut at = 0;
     while size <= table.len() - at {
         if octets::same_at(table, at + from, want) {
-            octets::fill_at(table, at, size, 0xFF);
+            octets::fill_at(table, at, size, FREE);
         }
         at += size;
     }

@@ -66,7 +66,7 @@ fn free_or_fits(kind: Kind, rec: &[u8], devices: &[u8], groups: &[u8]) -> bool
     requires { ⌜ length (now rec) ≡ size kind ⌝ }
     ensures { λ r. ⌜ r ≡ freeOr (fits kind (records (size Devices) (now (devices .entry))) (records (size Groups) (now (groups .entry)))) (now (rec .entry)) ⌝ }
 {
-    let free = octets::all_at(rec, 0, rec.len(), 0xFF);
+    let free = records::free_at(rec, rec.len(), 0);
     let fit = fields::fits(kind, rec, devices, groups);
     free | fit
 }
@@ -91,7 +91,7 @@ fn free_or_last(rec: &[u8], later: &[u8], size: usize, n: usize) -> bool
     requires { ⌜ (0 < size) × (n ≤ size) × (length (now rec) ≡ size) ⌝ }
     ensures { λ r. ⌜ r ≡ freeOr (notAgain n (records size (now (later .entry)))) (now (rec .entry)) ⌝ }
 {
-    let free = octets::all_at(rec, 0, size, 0xFF);
+    let free = records::free_at(rec, size, 0);
     let again = records::has(later, size, 0, &rec[..n]);
     free | !again
 }

@@ -1,6 +1,5 @@
 -- `tables::unit_at` meets its contract. The record is tested where it stands in the table.
 use native.Mathlib.Omega.{arith}
-use Prim.Native.Nat.{_+_}
 use lib.Dec.{leb}
 use lib.ListN.{take, drop}
 use borrow.Author.Needs.{needs}

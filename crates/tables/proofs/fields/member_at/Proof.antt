@@ -1,6 +1,5 @@
 -- `tables::member_at` meets its contract. The record is copied whole.
 use mathlib.Core.Path.{refl}
-use native.Mathlib.Omega.{arith}
 use borrow.Author.Needs.{needs}
 use Rattle.tables.proofs.Places.{copy-fits, copied}
 use Rattle.tables.proofs.fields.member_at.Statement.{statement}

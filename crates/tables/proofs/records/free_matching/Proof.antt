@@ -3,7 +3,7 @@ use mathlib.Core.Path.{_∙_}
 use mathlib.Core.Logic.{⊎-elim}
 use Prim.Native.Nat.{_-_}
 use native.Mathlib.Omega.{arith}
-use lib.ListN.{length, take, drop, replicate, length-replicate}
+use lib.ListN.{length, replicate, length-replicate}
 use Rattle.rules.specs.Tables.{matches, clear, written}
 use Rattle.rules.proofs.Records.{Changing, changing-start, changing-hit, changing-miss, changing-end, clear-hit, clear-miss, clear-end, matches-at, length-record}
 use Rattle.tables.proofs.records.free_matching.Statement.{statement}

@@ -1,11 +1,10 @@
 -- `tables::has_room` meets its contract. The records that are left decide.
 use mathlib.Core.Path.{sym, _∙_}
-use mathlib.Core.Bool.{_||_}
 use Prim.Native.Nat.{_-_}
 use native.Mathlib.Omega.{arith}
 use lib.ListN.{length}
 use Rattle.rules.specs.Lists.{any}
-use Rattle.rules.specs.Tables.{room?, free?}
+use Rattle.rules.specs.Tables.{room?}
 use Rattle.rules.proofs.Records.{Walking, walking-start, walking-more, walking-hit, walking-end}
 use Rattle.tables.proofs.records.has_room.Statement.{statement}
 use Rattle.tables.proofs.records.has_room.Tie as tie
@@ -17,12 +16,12 @@ abbrev μ-loop : tie.MeasureT-loop
 μ-loop table size at₀ at = length table - at
 
 returns : tie.Need-returns Inv-loop μ-loop
-unfolding room? any free?
-returns c = walking-hit (c .before .before .before .loop .inv) (omega arith) (omega arith) (rw (sym (c .before .all-at .ensures) ∙ c .if1 .taken))
+unfolding room? any
+returns c = walking-hit (c .before .before .before .loop .inv) (omega arith) (omega arith) (rw (sym (c .before .free-at .ensures) ∙ c .if1 .taken))
 
 loop-again : tie.Need-loop-again Inv-loop μ-loop
-unfolding room? any free?
-loop-again c = walking-more (c .before .before .before .loop .inv) (omega arith) (omega arith) (rw (sym (c .before .all-at .ensures) ∙ c .if1 .left))
+unfolding room? any
+loop-again c = walking-more (c .before .before .before .loop .inv) (omega arith) (omega arith) (rw (sym (c .before .free-at .ensures) ∙ c .if1 .left))
 
 returns-2 : tie.Need-returns-2 Inv-loop μ-loop
 unfolding room? any

@@ -1,20 +1,17 @@
 -- `tables::matches_at` meets its contract. A record is tested where it stands in the table.
-use mathlib.Core.Path.{_≡_}
-use mathlib.Core.Bool.{not, _&&_}
 use native.Mathlib.Omega.{arith}
 use borrow.Author.Needs.{needs}
-use Rattle.rules.specs.Tables.{free?}
 use Rattle.rules.proofs.Records.{matches-at}
 use Rattle.tables.specs.Search.{passes}
 use Rattle.tables.proofs.records.matches_at.Statement.{statement}
 use Rattle.tables.proofs.records.matches_at.Tie as tie
 
 returns : tie.Need-returns
-unfolding passes free?
+unfolding passes
 returns c =
     let a = c .before .before .before .before .args in
     let m = matches-at (a .from) (a .size) (a .at) (a .want .now) (a .table .now) (omega arith) (c .same-at .ensures) in
-    rw (c .before .all-at .ensures, m)
+    rw (c .before .free-at .ensures, m)
 
 pub matches-at-spec : {M : Type 1} → statement M
 matches-at-spec = tie.close (tie.spec (λ c κs. search needs) (λ c. search needs) (λ c κs. search needs) returns)

@@ -3,7 +3,7 @@ use mathlib.Core.Path.{refl, sym, _∙_}
 use Prim.Native.Nat.{_-_}
 use native.Mathlib.Omega.{arith}
 use lib.ListN.{length}
-use Rattle.rules.specs.Tables.{free?, put, written}
+use Rattle.rules.specs.Tables.{put, written}
 use Rattle.rules.proofs.Records.{Changing, changing-start, changing-miss, changing-end, put-miss, put-end, put-done}
 use Rattle.tables.proofs.records.store.Statement.{statement}
 use Rattle.tables.proofs.records.store.Tie as tie
@@ -18,19 +18,18 @@ same-length : tie.Need-same-length Inv-loop μ-loop
 same-length c = c .before .before .write-at .kept .0 ∙ c .before .before .before .before .before .before .before .before .loop .inv .same
 
 returns : tie.Need-returns Inv-loop μ-loop
-unfolding free? written
+unfolding written
 returns c =
     let i = c .before .before .before .before in
     let l = i .before .before .before .before in
     let start = l .before .before .before in
     c .before .before .write-at .ensures
-    ∙ put-done (start .args .«record» .now) (start .pre .2) (l .loop .inv) (omega arith) (omega arith) (sym (i .before .all-at .ensures) ∙ i .if1 .taken)
+    ∙ put-done (start .args .«record» .now) (start .pre .2) (l .loop .inv) (omega arith) (omega arith) (sym (i .before .free-at .ensures) ∙ i .if1 .taken)
 
 loop-again : tie.Need-loop-again Inv-loop μ-loop
-unfolding free?
 loop-again c =
     let l = c .before .before .before .before in
-    changing-miss (l .loop .inv) (omega arith) (omega arith) (put-miss _ _ _ (sym (c .before .all-at .ensures) ∙ c .if1 .left)) refl
+    changing-miss (l .loop .inv) (omega arith) (omega arith) (put-miss _ _ _ (sym (c .before .free-at .ensures) ∙ c .if1 .left)) refl
 
 returns-2 : tie.Need-returns-2 Inv-loop μ-loop
 unfolding written

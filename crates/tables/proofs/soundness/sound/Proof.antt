@@ -1,5 +1,4 @@
 -- `tables::sound` meets its contract.
-use denote.Ref.{now}
 use borrow.Author.Needs.{needs}
 use Rattle.rules.specs.Lists.{_&_}
 use Rattle.rules.specs.Sound.{sound}
