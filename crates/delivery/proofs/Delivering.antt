@@ -25,8 +25,7 @@ use Rattle.rules.proofs.Lists.{split}
 use Rattle.delivery.specs.Listing.{units, addedAll, once, Listing, Taken, Room}
 use Rattle.delivery.specs.Leaving.{leaving, membersBut, boundBut}
 use Rattle.delivery.specs.Delivering.{bindsAndMembers, Deliverable}
-use Rattle.delivery.specs.declared.Except.{Except}
-use Rattle.delivery.specs.declared.Except.the-variants.{Nobody, Sender}
+use Rattle.delivery.specs.declared.Except.the-variants.{Sender}
 use Rattle.delivery.proofs.Units.{has-none, added-new, length-ordered, once-addedAll, ordered-addedAll}
 use Rattle.delivery.proofs.Listing.{length-unitOctets, over-over, units-written}
 use Rattle.delivery.proofs.Room.{Within, count-within, room-within}

@@ -3,8 +3,7 @@ use mathlib.Core.Path.{_≡_, refl, sym, ap, _∙_}
 use mathlib.Core.Bool.{true, false, false≢true}
 use mathlib.Core.List.{List, [], _∷_, _++_, flatMap, append-nil, append-assoc}
 use Prim.Native.Nat.{ℕ, zero, suc, _+_, _-_, _*_, _/_, _%_, _^_, _≤_, _<_}
-use native.Mathlib.Nat.{add-zero, add-assoc, zero-add, sub-zero}
-use native.Mathlib.Numerals.{add-one}
+use native.Mathlib.Nat.{add-zero, add-assoc, sub-zero}
 use native.Mathlib.Omega.{arith}
 use borrow.Author.Tests.{eqb-true}
 use lib.Dec.{eqb}
@@ -13,16 +12,12 @@ use lib.Seq.{getD-take, getD-drop, drop-drop, drop-length, drop-append-add, leng
 use Rattle.rules.specs.Lists.{has}
 use Rattle.rules.specs.Octets.{octet, word, over}
 use Rattle.rules.specs.Units.{unitNumber, unitAt, threeOctets, unitOctets}
-use Rattle.delivery.specs.Listing.{units, added, addedAll, Taken, Room}
+use Rattle.delivery.specs.Listing.{units, addedAll, Taken, Room}
 use Rattle.delivery.proofs.Units.{or-either, has-none, has-cons, added-there, added-new, addedAll-grows}
 
 -- Octets written over octets
 
-pub length-over : (a l : List ℕ) → length a ≤ length l → length (over a l) ≡ length l
-unfolding over
-length-over a l h = rw (length-append, length-drop) (omega arith)
-
--- .. as many as there are
+-- all of them
 pub over-whole : (a l : List ℕ) → length a ≡ length l → over a l ≡ a
 unfolding over
 over-whole a l h = rw (h, drop-length, append-nil)
@@ -36,7 +31,7 @@ over-over a b l h =
 -- A unit and its octets
 
 -- octet j of a record
-pub octet-at : (k at j : ℕ) (t : List ℕ) → j < k → octet j (take k (drop at t)) ≡ octet (at + j) t
+octet-at : (k at j : ℕ) (t : List ℕ) → j < k → octet j (take k (drop at t)) ≡ octet (at + j) t
 octet-at k at j t h = getD-take k (drop at t) j 0 h ∙ getD-drop at t j 0
 
 -- the unit from place i on of a record

@@ -1,5 +1,5 @@
 -- Who is left out (document 01, Recipients, "without the sender"), and those that are taken.
-use mathlib.Core.Bool.{Bool, true, false, not}
+use mathlib.Core.Bool.{Bool, false, not}
 use mathlib.Core.List.{List, flatMap}
 use Prim.Native.Nat.{ℕ}
 use lib.Dec.{eqb}

@@ -1,9 +1,8 @@
 -- Recipients in a lent list (document 01, Outcomes and Recipients): 3 octets each from its front on, and how many there are.
 use mathlib.Core.Path.{_≡_}
-use mathlib.Core.Bool.{Bool, true, false, cond, not, _&&_}
+use mathlib.Core.Bool.{Bool, true, cond, not}
 use mathlib.Core.List.{List, [], _∷_, _++_}
 use Prim.Native.Nat.{ℕ, zero, suc, _*_, _≤_}
-use lib.Dec.{leb, ltb}
 use lib.ListN.{length, drop}
 use Rattle.rules.specs.Lists.{has, _&_}
 use Rattle.rules.specs.Octets.{over}
@@ -27,10 +26,6 @@ addedAll (v ∷ vs) us = addedAll vs (added v us)
 unfoldable pub once : List ℕ → Bool
 once [] = true
 once (u ∷ us) = not (has u us) & once us
-
--- u where it is not below f and lower than b, else b
-unfoldable pub lower : ℕ → ℕ → ℕ → ℕ
-lower f u b = cond (leb f u && ltb u b) u b
 
 -- the list `after` is `before` with the n recipients us written over it: octets past them stay
 pub record Listing (before after : List ℕ) (n : ℕ) (us : List ℕ) : Type 0 where
