@@ -6,7 +6,7 @@ use Prim.Native.Nat.{ℕ, suc, _+_, _-_, _*_, _/_, _≤_}
 use native.Mathlib.Omega.{arith}
 use borrow.Author.Tests.{leb-true}
 use lib.Dec.{eqb, ltb}
-use lib.ListN.{length, take, drop, length-append, length-drop, length-map}
+use lib.ListN.{length, take, drop, length-append, length-take, length-drop, length-map}
 use lib.Seq.{sets, length-take-le}
 use Rattle.rules.specs.Octets.{octet, octets, over}
 use Rattle.rules.specs.Lists.{all, keep, firstOf}
@@ -16,7 +16,7 @@ use Rattle.rules.specs.Exists.{groupExists}
 use Rattle.rules.specs.Sound.{groupFits}
 use Rattle.rules.specs.Commands.{membersOf, info}
 use Rattle.rules.proofs.Lists.{split, first-passes}
-use Rattle.rules.proofs.Records.{length-records}
+use Rattle.rules.proofs.Records.{length-records, Each, each-records}
 use Rattle.tables.specs.Search.{foundAt}
 use Rattle.tables.specs.declared.Found.{Found}
 use Rattle.tables.specs.declared.Found.the-variants.{At, Nothing}
@@ -149,3 +149,35 @@ informs g t ms f = rw (f .exists, f .is)
 pub informs-not : (g : ℕ) (t : List ℕ) (ms : List Rec) → groupExists (records 16 t) g ≡ false → 2 ∷ [] ≡ infoPayload g (records 16 t) ms
 unfolding infoPayload
 informs-not g t ms h = rw h
+
+-- no reply is longer than a message holds
+
+first-short : (k : ℕ) (p q : Rec → Bool) (rs : List Rec) → Each k rs → length (firstOf [] p (keep q rs)) ≤ k
+unfolding firstOf keep
+first-short k p q [] e = omega arith
+first-short k p q (r ∷ rs) e = step (q r) (p r) (first-short k p q rs (e .1))
+  where
+    step : (a b : Bool) → length (firstOf [] p (keep q rs)) ≤ k → length (firstOf [] p (cond a (r ∷ keep q rs) (keep q rs))) ≤ k
+    step false b h = h
+    step true b h = pick (p r) h
+      where
+        pick : (c : Bool) → length (firstOf [] p (keep q rs)) ≤ k → length (cond c r (firstOf [] p (keep q rs))) ≤ k
+        pick true h = omega (arith, e .0)
+        pick false h = h
+
+pub info-short : (g : ℕ) (t ms : List ℕ) → length ms ≤ 640 → length (info (firstOf [] (addressed g) (used (records 16 t))) (ordered (membersOf (records 5 ms) g))) ≤ 485
+unfolding info infoHead octets used
+info-short g t ms h =
+    let r : Rec = firstOf [] (addressed g) (keep (λ x. not (free? x)) (records 16 t)) in
+    let us : List ℕ = ordered (membersOf (records 5 ms) g) in
+    let name : List ℕ = take (octet 2 r) (drop 3 r) in
+    omega (
+      arith,
+      first-short 16 (addressed g) (λ x. not (free? x)) (records 16 t) (each-records 16 t),
+      few-members g ms h,
+      length-unitOctets us,
+      length-append (name ++ octets (length us)) (unitOctets us),
+      length-append name (octets (length us)),
+      length-take (octet 2 r) (drop 3 r),
+      length-drop 3 r,
+    )

@@ -20,6 +20,7 @@ use Rattle.rules.specs.declared.Code.{Code}
 use Rattle.rules.specs.declared.Command.{Command}
 use Rattle.rules.specs.declared.Command.the-variants.{AddBind, RemoveBinds, CreateGroup, DeleteGroup, AddToGroup, RemoveFromGroup, GetGroupInfo, Other}
 use Rattle.rules.proofs.Kept.{lentOf}
+use Rattle.commands.proofs.Informing.{info-short}
 use Rattle.commands.specs.Handlers.{Decided, decided, onOk, deciding, addition, bindAddition, memberAddition, removal, creation, createdPayload, Deleted, deleted, deletion, deleting, infoPayload, Made, made, making}
 use Rattle.commands.specs.Perform.{Performed, performed, performance, payloadOf, effectOf, acting, Served}
 
@@ -223,3 +224,20 @@ rights-of ds bs gs ms s Other = refl
 pub acts-other : (L : Lent) (p out : List ℕ) → performed 1 L (over (invalidArgument .0 ∷ []) out) ≡ acting L Other p out
 unfolding acting payloadOf effectOf verdict changed nothing written
 acts-other L p out = refl
+
+-- a code alone is short
+short : (b : Bool) (n : ℕ) (q : List ℕ) → length q ≤ 485 → length (cond b q (n ∷ [])) ≤ 485
+short true n q h = h
+short false n q h = omega arith
+
+-- every payload of a reply fits behind the header
+pub payload-short : (L : Lent) (s : ℕ) (k : Command) (p : List ℕ) → length (L .members) ≤ 640 → length (replyPayload (tables L) s k p) ≤ 485
+unfolding replyPayload granting groupInfo tables octets
+payload-short L s AddBind p h = short (eqb (judge (tables L) s AddBind p .0) (ok .0)) _ _ (omega arith)
+payload-short L s (RemoveBinds from n) p h = short (eqb (judge (tables L) s (RemoveBinds from n) p .0) (ok .0)) _ _ (omega arith)
+payload-short L s CreateGroup p h = short (eqb (judge (tables L) s CreateGroup p .0) (ok .0)) _ _ (omega arith)
+payload-short L s DeleteGroup p h = short (eqb (judge (tables L) s DeleteGroup p .0) (ok .0)) _ _ (omega arith)
+payload-short L s AddToGroup p h = short (eqb (judge (tables L) s AddToGroup p .0) (ok .0)) _ _ (omega arith)
+payload-short L s RemoveFromGroup p h = short (eqb (judge (tables L) s RemoveFromGroup p .0) (ok .0)) _ _ (omega arith)
+payload-short L s GetGroupInfo p h = short (eqb (judge (tables L) s GetGroupInfo p .0) (ok .0)) _ _ (info-short (groupNamed p) (L .groups) (L .members) h)
+payload-short L s Other p h = short (eqb (judge (tables L) s Other p .0) (ok .0)) _ _ (omega arith)

@@ -1,7 +1,9 @@
 // The public calls of the bind and group part (document 01): each looks at all that is lent to it, decides, and then acts.
+mod act;
 mod decide;
 mod host;
 
+pub use act::message;
 pub use decide::way_of;
 pub use host::admit;
 pub use host::release;
