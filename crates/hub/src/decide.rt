@@ -115,7 +115,8 @@ pub fn way_of(
     reply: &[u8],
     list: &[u8],
 ) -> Way
-    ensures { λ r. ⌜ r ≡ way (lent (now (devices .entry)) (now (binds .entry)) (now (groups .entry)) (now (members .entry))) (now (msg .entry)) (now (reply .entry)) (now (list .entry)) ⌝ }
+    ensures { λ r. ⌜ r ≡ way (lent (now (devices .entry)) (now (binds .entry)) (now (groups .entry)) (now (members .entry)))
+        (now (msg .entry)) (now (reply .entry)) (now (list .entry)) ⌝ }
 {
     let room = roomy(binds, members, reply, list);
     let sound = tables::sound(devices, binds, groups, members);

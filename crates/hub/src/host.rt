@@ -34,7 +34,8 @@ fn admit_outcome(
     rights: u8,
     highest: u8,
 ) -> Outcome
-    ensures { λ r. ⌜ r ≡ admit (lent (now (devices .entry)) (now (binds .entry)) (now (groups .entry)) (now (members .entry))) (address .0) rights highest .outcome ⌝ }
+    ensures { λ r. ⌜ r ≡ admit (lent (now (devices .entry)) (now (binds .entry)) (now (groups .entry)) (now (members .entry)))
+        (address .0) rights highest .outcome ⌝ }
 {
     let sound = tables::sound(devices, binds, groups, members);
     let fits = device_in_range(address, rights, highest);
@@ -110,7 +111,8 @@ fn free_binds(binds: &mut [u8], device: DeviceAddress)
 // "Release takes the device, its members and all binds that name it". No group goes with a device.
 fn free_device(devices: &mut [u8], binds: &mut [u8], members: &mut [u8], device: DeviceAddress)
     requires { ⌜ (length (now devices) % size Devices ≡ 0) × (length (now binds) % size Binds ≡ 0) × (length (now members) % size Members ≡ 0) ⌝ }
-    ensures { λ _. ⌜ lent (now (devices .exit)) (now (binds .exit)) [] (now (members .exit)) ≡ changed (releasing (device .0)) (lent (now (devices .entry)) (now (binds .entry)) [] (now (members .entry))) ⌝ }
+    ensures { λ _. ⌜ lent (now (devices .exit)) (now (binds .exit)) [] (now (members .exit))
+        ≡ changed (releasing (device .0)) (lent (now (devices .entry)) (now (binds .entry)) [] (now (members .entry))) ⌝ }
 {
     let address = tables::address_octets(device.0);
     tables::free_matching(devices, tables::DEVICE, 0, &address);

@@ -1,5 +1,5 @@
 -- `hub::decide::way_of` meets its contract: one check after the other, those of reading as one.
-use mathlib.Core.Path.{_≡_, sym, ap, _∙_}
+use mathlib.Core.Path.{sym, ap, _∙_}
 use borrow.Author.Needs.{needs}
 use borrow.Author.Tests.{not-true, not-false}
 use Rattle.rules.specs.Calls.{roomy}

@@ -1,5 +1,5 @@
 -- `hub::decide::way_to` meets its contract: each arm knows the destination.
-use mathlib.Core.Path.{_≡_, ap, _∙_}
+use mathlib.Core.Path.{ap, _∙_}
 use borrow.Author.Needs.{needs}
 use Rattle.rules.specs.Tables.{tables}
 use Rattle.rules.specs.Calls.{serving, wayTo}
