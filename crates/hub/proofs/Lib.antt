@@ -2,3 +2,4 @@
 pub mod Ways
 pub mod Hosting
 pub mod Once
+pub mod Acts

@@ -1,88 +1,45 @@
+-- `hub::act::serve` meets its contract: the payload behind the header, then the header.
+use mathlib.Core.Path.{_∙_}
+use native.Mathlib.Omega.{arith}
+use borrow.Rule.Slice.PartMut.{same-len-mid}
+use denote.Ref.{now}
+use Rattle.messages.proofs.Replies.{fields-ranged, rest-is}
+use Rattle.commands.proofs.Sizes.{sizes}
+use Rattle.hub.proofs.Acts.{performed-short, serves}
 use borrow.Author.Needs.{needs}
 use Rattle.hub.proofs.act.serve.Statement.{statement}
 use Rattle.hub.proofs.act.serve.Tie as tie
-use Rattle.hub.proofs.act.serve.Reads as reads
-use Rattle.hub.proofs.act.serve.Lts as lts
-use Rattle.commands.proofs.perform.Reads as perform-reads
-use Rattle.messages.proofs.fields.Reads as fields-reads
-use Rattle.messages.proofs.write_header.Reads as write-header-reads
 
--- src/act.rt:29:9
-fields-requires : tie.Need-fields-requires
-fields-requires c κs = search needs
-
--- src/act.rt:37:9
-sub-perform : tie.Need-sub-perform
-sub-perform c = search needs
-
--- src/act.rt:37:9
-part-perform-start : tie.Need-part-perform-start
-part-perform-start c = search needs
-
--- src/act.rt:37:9
-part-perform-end : tie.Need-part-perform-end
-part-perform-end c = search needs
-
--- src/act.rt:38:9
-sub-perform-2 : tie.Need-sub-perform-2
-sub-perform-2 c = search needs
-
--- src/act.rt:38:9
-part-perform-start-2 : tie.Need-part-perform-start-2
-part-perform-start-2 c = search needs
-
--- src/act.rt:38:9
-part-perform-end-2 : tie.Need-part-perform-end-2
-part-perform-end-2 c = search needs
-
--- src/act.rt:30:9
-perform-requires : tie.Need-perform-requires
-perform-requires c κs = search needs
-
--- src/act.rt:40:5
 write-header-requires : tie.Need-write-header-requires
-write-header-requires c κs = ?
+write-header-requires c κs =
+    let start = c .before .before .before .before .before .before .before .before .before .before .before .before .before .before .before .before .before .before .before .before .before .before in (
+      rw (same-len-mid 15 _ (start .args .reply .now) _ (c .before .before .before .before .before .before .before .before .before .perform .kept .1 .1 .1 .1 .1 .1 .1 .0)) (omega (arith, start .pre .room)),
+      omega (arith, performed-short _ _ _ _ _ (sizes _ (c .before .before .before .before .before .before .before .before .before .before .before .before .before .before .before .before .before .before .before .before .before .before .pre .sound) .few-members) (c .before .before .before .before .before .before .before .before .before .perform .ensures)),
+      rw (c .before .before .before .before .before .before .before .before .before .before .before .before .before .before .before .fields .ensures) (fields-ranged _),
+    )
 
--- src/act.rt:41:19
-add-t17 : tie.Need-add-t17
-add-t17 c = ?
-
--- src/act.rt:16:1
-same-length : tie.Need-same-length
-same-length c = search needs
-
--- src/act.rt:16:1
-same-length-2 : tie.Need-same-length-2
-same-length-2 c = search needs
-
--- src/act.rt:16:1
-same-length-3 : tie.Need-same-length-3
-same-length-3 c = search needs
-
--- src/act.rt:16:1
-same-length-4 : tie.Need-same-length-4
-same-length-4 c = search needs
-
--- src/act.rt:16:1
 returns : tie.Need-returns
-returns c = ?
+returns c =
+    let start = c .before .before .before .before .before .before .before .before .before .before .before .before .before .before .before .before .before .before .before .before .before .before .before .before .before in
+    let performed = rw (rest-is 15 (start .args .msg .now), rest-is 15 (start .args .reply .now)) at (c .before .before .before .before .before .before .before .before .before .before .before .before .perform .ensures) in
+    rw (c .before .before .write-header .ensures) (serves _ _ (start .args .msg .now) (start .args .reply .now) (c .before .before .before .before .before .before .before .before .before .before .before .before .before .before .before .before .before .before .fields .ensures) (start .pre .room) performed)
 
 pub serve-spec : {M : Type 1} → statement M
 serve-spec =
     tie.close
     (tie.spec
-    fields-requires
-    sub-perform
-    part-perform-start
-    part-perform-end
-    sub-perform-2
-    part-perform-start-2
-    part-perform-end-2
-    perform-requires
+    (λ c κs. search needs)
+    (λ c. search needs)
+    (λ c. search needs)
+    (λ c. search needs)
+    (λ c. search needs)
+    (λ c. search needs)
+    (λ c. search needs)
+    (λ c κs. search needs)
     write-header-requires
-    add-t17
-    same-length
-    same-length-2
-    same-length-3
-    same-length-4
+    (λ c. omega (arith, performed-short _ _ _ _ _ (sizes _ (c .before .before .before .before .before .before .before .before .before .before .before .before .before .before .before .before .before .before .before .before .before .before .before .before .before .pre .sound) .few-members) (c .before .before .before .before .before .before .before .before .before .before .before .before .perform .ensures)))
+    (λ c. search needs)
+    (λ c. search needs)
+    (λ c. search needs)
+    (λ c. search needs)
     returns)
