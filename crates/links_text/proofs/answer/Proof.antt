@@ -1,0 +1,69 @@
+-- `links_text::answer` meets its contract: the tables are those of the input, and the text is that of the answer.
+use mathlib.Core.Path.{_≡_, sym, ap, _∙_}
+use native.Mathlib.Omega.{arith}
+use denote.Ref.{now}
+use Rattle.messages.proofs.Replies.{rest-is}
+use Rattle.links_text.proofs.Bounds.{within}
+use Rattle.links_text.proofs.Texts.{answer-text}
+use borrow.Author.Needs.{needs}
+use Rattle.links_text.proofs.answer.Statement.{statement}
+use Rattle.links_text.proofs.answer.Tie as tie
+
+write-answer-requires : tie.Need-write-answer-requires
+write-answer-requires c κs =
+    let start = c .before .before .before .before .before .before .before .before .before .before .before .before .before .before .before .before .before .before .before .before .before .before .before .before .before .before .before .before .before .before .before .before .before .before .before in
+    let told = c .before .before .before .before .before .before .before .before .before .message in
+    let w = within _ _ _ _ (told .ensures) in
+    record {
+      reply = w .reply;
+      longest = omega (arith, w .reply, told .kept .1 .1 .1 .1 .1 .0);
+      list = w .list;
+      most = omega (arith, w .list, told .kept .1 .1 .1 .1 .1 .1 .0);
+      text = start .pre .1;
+    }
+
+returns : tie.Need-returns
+returns c =
+    let start = c .before .before .before .before .before .before .before .before .before .before .before .before .before .before .before .before .before .before .before .before .before .before .before .before .before .before .before .before .before .before .before .before .before .before .before .before .before .before in
+    rw (← answer-text (now (start .args .input)) _ _ _ _ _ (start .pre .0) (c .before .before .before .before .before .before .before .before .before .before .before .before .before .before .before .before .before .before .before .before .before .before .before .before .before .before .before .before .before .before .before .before .before .put .ensures) (c .before .before .before .before .before .before .before .before .before .before .before .before .before .before .before .before .before .before .before .before .before .before .before .before .before .before .before .before .before .put2 .ensures) (c .before .before .before .before .before .before .before .before .before .before .before .before .before .before .before .before .before .before .before .before .before .before .before .before .before .put3 .ensures) (c .before .before .before .before .before .before .before .before .before .before .before .before .before .before .before .before .before .before .before .before .before .put4 .ensures)
+    (rest-is 1664 (now (start .args .input))) (c .before .before .before .before .before .before .before .before .before .before .before .before .message .ensures)) (c .before .before .write-answer .ensures)
+
+pub answer-spec : {M : Type 1} → statement M
+answer-spec =
+    tie.close
+    (tie.spec
+    (λ c. search needs)
+    (λ c. search needs)
+    (λ c. search needs)
+    (λ c. search needs)
+    (λ c κs. search needs)
+    (λ c. search needs)
+    (λ c. search needs)
+    (λ c. search needs)
+    (λ c. search needs)
+    (λ c κs. search needs)
+    (λ c. search needs)
+    (λ c. search needs)
+    (λ c. search needs)
+    (λ c. search needs)
+    (λ c κs. search needs)
+    (λ c. search needs)
+    (λ c. search needs)
+    (λ c. search needs)
+    (λ c. search needs)
+    (λ c κs. search needs)
+    (λ c. search needs)
+    (λ c. search needs)
+    (λ c. search needs)
+    (λ c. search needs)
+    (λ c. search needs)
+    (λ c. search needs)
+    (λ c. search needs)
+    (λ c. search needs)
+    (λ c. search needs)
+    (λ c κs. search needs)
+    (λ c. search needs)
+    (λ c. search needs)
+    write-answer-requires
+    (λ c. search needs)
+    returns)

@@ -1,0 +1,2 @@
+-- What `links` prints for an input.
+pub mod Printing
