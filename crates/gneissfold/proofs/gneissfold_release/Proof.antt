@@ -1,0 +1,19 @@
+-- `gneissfold::gneissfold_release` meets its contract: the answer of `hub::release`, told in numbers.
+use borrow.Author.Needs.{needs}
+use Rattle.gneissfold.proofs.Telling.{host-tells}
+use Rattle.gneissfold.proofs.gneissfold_release.Statement.{statement}
+use Rattle.gneissfold.proofs.gneissfold_release.Tie as tie
+
+returns : tie.Need-returns
+returns c = host-tells (c .before .before .before .before .before .before .before .release .ensures) (c .number .ensures)
+
+pub gneissfold-release-spec : {M : Type 1} → statement M
+gneissfold-release-spec =
+    tie.close
+    (tie.spec
+    (λ c κs. search needs)
+    (λ c κs. search needs)
+    (λ c. search needs)
+    (λ c. search needs)
+    (λ c. search needs)
+    returns)

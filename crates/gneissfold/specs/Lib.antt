@@ -1,0 +1,2 @@
+-- The definitions that the contracts of `gneissfold` cite beside those of `rules`.
+pub mod Numbers

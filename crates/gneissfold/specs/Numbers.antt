@@ -1,0 +1,63 @@
+-- What the exported calls answer: the answers of `rules`, with the outcome as the paper's number (document 01, Outcomes) and the count or length that goes with it.
+use mathlib.Core.List.{List, [], _∷_}
+use Prim.Native.Nat.{ℕ}
+use Rattle.rules.specs.Outcomes.{numberOf, valueOf}
+use Rattle.rules.specs.Tables.{Lent}
+use Rattle.rules.specs.Calls.{Answer}
+use Rattle.rules.specs.Copy.{CopyAnswer}
+use Rattle.rules.specs.Host.{HostAnswer}
+use Rattle.rules.specs.declared.Fields.{Fields}
+use Rattle.rules.specs.declared.Reading.{Reading}
+
+-- of a message: outcome number, reply length or recipient count, and every octet lent
+pub record MessageTold : Type 0 where
+  pub number : ℕ
+  pub count : ℕ
+  pub tables : Lent
+  pub reply : List ℕ
+  pub list : List ℕ
+
+abbrev pub messageTold : ℕ → ℕ → Lent → List ℕ → List ℕ → MessageTold
+messageTold n c L r l = record { number = n; count = c; tables = L; reply = r; list = l }
+
+abbrev pub ofMessage : Answer → MessageTold
+ofMessage a = messageTold (numberOf (a .outcome)) (valueOf (a .outcome)) (a .tables) (a .reply) (a .list)
+
+-- of admit and release: "they .. return 0", so the number says all
+pub record HostTold : Type 0 where
+  pub number : ℕ
+  pub tables : Lent
+
+abbrev pub hostTold : ℕ → Lent → HostTold
+hostTold n L = record { number = n; tables = L }
+
+abbrev pub ofHost : HostAnswer → HostTold
+ofHost a = hostTold (numberOf (a .outcome)) (a .tables)
+
+-- of a copy
+pub record CopyTold : Type 0 where
+  pub number : ℕ
+  pub length : ℕ
+  pub room : List ℕ
+
+abbrev pub copyTold : ℕ → ℕ → List ℕ → CopyTold
+copyTold n k room = record { number = n; length = k; room = room }
+
+abbrev pub ofCopy : CopyAnswer → CopyTold
+ofCopy a = copyTold (numberOf (a .outcome)) (valueOf (a .outcome)) (a .room)
+
+-- of reading alone: the twelve fields in the message's order, the last the octet where the payload begins
+pub record ReadTold : Type 0 where
+  pub number : ℕ
+  pub fields : List ℕ
+
+abbrev pub readTold : ℕ → List ℕ → ReadTold
+readTold n fs = record { number = n; fields = fs }
+
+unfoldable pub twelve : Fields → List ℕ
+twelve f =
+    f .source .0 ∷ f .«source_unit» ∷ f .«address_type» ∷ f .destination ∷ f .«destination_unit» ∷ f .«app_ref» ∷ f .kind
+    ∷ f .«interface_type» ∷ f .uid ∷ f .member ∷ f .«data_length» ∷ f .payload ∷ []
+
+abbrev pub ofReading : Reading → ReadTold
+ofReading a = readTold (numberOf (a .outcome)) (twelve (a .fields))

@@ -1,0 +1,129 @@
+// The calls for C and Rust (include/gneissfold.h, bindings/rust). Each hands on what is lent to it to a call of `hub`, and tells the
+// answer in numbers: the paper's outcome number is returned, a length or count goes where the caller points.
+// No call requires anything: each answers on any octets and any lengths.
+use rules::DeviceAddress;
+use rules::Fields;
+ghost use mathlib.Core.Path.{_≡_};
+ghost use Rattle.rules.specs.Tables.{lent};
+ghost use Rattle.rules.specs.Calls.{message};
+ghost use Rattle.rules.specs.Copy.{copy};
+ghost use Rattle.rules.specs.Host.{admit, release};
+ghost use Rattle.rules.specs.Message.{reading};
+ghost use Rattle.gneissfold.specs.Numbers.{messageTold, ofMessage, hostTold, ofHost, copyTold, ofCopy, readTold, ofReading, twelve};
+
+// Handles a message. `count` gets the reply's length or the number of recipients, and 0 where the paper states none.
+#[no_mangle]
+pub extern "C" fn gneissfold_message(
+    devices: &mut [u8],
+    binds: &mut [u8],
+    groups: &mut [u8],
+    members: &mut [u8],
+    msg: &[u8],
+    reply: &mut [u8],
+    list: &mut [u8],
+    count: &mut usize,
+) -> u8
+    ensures { λ r. ⌜ messageTold r (now (count .exit)) (lent (now (devices .exit)) (now (binds .exit)) (now (groups .exit)) (now (members .exit))) (now (reply .exit)) (now (list .exit))
+        ≡ ofMessage (message (lent (now (devices .entry)) (now (binds .entry)) (now (groups .entry)) (now (members .entry))) (now (msg .entry)) (now (reply .entry)) (now (list .entry))) ⌝ }
+{
+    let outcome = hub::message(devices, binds, groups, members, msg, reply, list);
+    *count = outcome.value();
+    outcome.number()
+}
+
+// Admits a device with its rights and its units 0 to the highest.
+#[no_mangle]
+pub extern "C" fn gneissfold_admit(
+    devices: &mut [u8],
+    binds: &[u8],
+    groups: &[u8],
+    members: &[u8],
+    address: u16,
+    rights: u8,
+    highest: u8,
+) -> u8
+    ensures { λ r. ⌜ hostTold r (lent (now (devices .exit)) (now (binds .entry)) (now (groups .entry)) (now (members .entry)))
+        ≡ ofHost (admit (lent (now (devices .entry)) (now (binds .entry)) (now (groups .entry)) (now (members .entry))) address rights highest) ⌝ }
+{
+    let outcome = hub::admit(
+        devices,
+        binds,
+        groups,
+        members,
+        DeviceAddress(address),
+        rights,
+        highest,
+    );
+    outcome.number()
+}
+
+// Releases a device, with its members and the binds that name it.
+#[no_mangle]
+pub extern "C" fn gneissfold_release(
+    devices: &mut [u8],
+    binds: &mut [u8],
+    groups: &[u8],
+    members: &mut [u8],
+    address: u16,
+) -> u8
+    ensures { λ r. ⌜ hostTold r (lent (now (devices .exit)) (now (binds .exit)) (now (groups .entry)) (now (members .exit)))
+        ≡ ofHost (release (lent (now (devices .entry)) (now (binds .entry)) (now (groups .entry)) (now (members .entry))) address) ⌝ }
+{
+    let outcome = hub::release(devices, binds, groups, members, DeviceAddress(address));
+    outcome.number()
+}
+
+// Writes the copy of a message for one unit of a device into the room. `length` gets the copy's length, or 0.
+#[no_mangle]
+pub extern "C" fn gneissfold_copy(
+    msg: &[u8],
+    room: &mut [u8],
+    device: u16,
+    unit: u8,
+    length: &mut usize,
+) -> u8
+    ensures { λ r. ⌜ copyTold r (now (length .exit)) (now (room .exit))
+        ≡ ofCopy (copy (now (msg .entry)) (now (room .entry)) device unit) ⌝ }
+{
+    let outcome = hub::copy(msg, room, DeviceAddress(device), unit);
+    *length = outcome.value();
+    outcome.number()
+}
+
+// An octet where a 16-bit number is wanted.
+fn wide(x: u8) -> u16
+    ensures { λ r. ⌜ r ≡ x ⌝ }
+{
+    x as u16
+}
+
+// The twelve fields in the message's order, the last the octet where the payload begins.
+fn numbers(f: Fields) -> [u16; 12]
+    ensures { λ r. ⌜ r ≡ twelve f ⌝ }
+{
+    [
+        f.source.0,
+        wide(f.source_unit),
+        f.address_type,
+        f.destination,
+        wide(f.destination_unit),
+        wide(f.app_ref),
+        wide(f.kind),
+        f.interface_type,
+        f.uid,
+        wide(f.member),
+        f.data_length,
+        f.payload,
+    ]
+}
+
+// Reads a message, and writes its twelve fields: every one of them 0 where it cannot be read.
+#[no_mangle]
+pub extern "C" fn gneissfold_read(msg: &[u8], fields: &mut [u16; 12]) -> u8
+    ensures { λ r. ⌜ readTold r (now (fields .exit)) ≡ ofReading (reading (now (msg .entry))) ⌝ }
+{
+    let reading = hub::read(msg);
+    *fields = numbers(reading.fields);
+    let outcome = reading.outcome;
+    outcome.number()
+}
