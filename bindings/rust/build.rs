@@ -6,17 +6,16 @@ fn main() {
     println!("cargo:rerun-if-env-changed=GNEISSFOLD_LIB_DIR");
     let folder = match env::var_os("GNEISSFOLD_LIB_DIR") {
         Some(folder) => PathBuf::from(folder),
-        None => PathBuf::from(env::var_os("CARGO_MANIFEST_DIR").expect("cargo sets it")).join("../../target/staticlib"),
+        None => PathBuf::from(env::var_os("CARGO_MANIFEST_DIR").expect("cargo sets it"))
+            .join("../../target/staticlib"),
     };
     let library = folder.join("libgneissfold.a");
     println!("cargo:rerun-if-changed={}", library.display());
     if !library.is_file() {
-        panic!("no {}: run `rt staticlib gneissfold` first, or set GNEISSFOLD_LIB_DIR", library.display());
-    }
-    // The library is compiled for x86-64 Linux: any other target would fail at the link, with a message that says less.
-    let arch = env::var("CARGO_CFG_TARGET_ARCH").expect("cargo sets it");
-    if arch != "x86_64" {
-        println!("cargo:warning=libgneissfold.a is for x86-64: on {arch} this crate compiles, and nothing that calls it links");
+        panic!(
+            "no {}: run `rt staticlib gneissfold` first, or set GNEISSFOLD_LIB_DIR",
+            library.display()
+        );
     }
     println!("cargo:rustc-link-search=native={}", folder.display());
     println!("cargo:rustc-link-lib=static=gneissfold");

@@ -7,8 +7,8 @@ const MOTOR: u16 = 0x0004;
 fn main() {
     // From 3:01 to D'0:U'0, Bind Management (server, UID 0x0002), Add Bind: 3:01, server, UID 0x0200, to D'4:U'01.
     let add_bind = [
-        0x00, 0x03, 0x01, 0x00, 0x00, 0x00, 0x00, 0x00, 0x07, 0x01, 0x80, 0x02, 0x01, 0x00, 0x08, 0x00, 0x03, 0x01,
-        0x82, 0x00, 0x00, 0x04, 0x01,
+        0x00, 0x03, 0x01, 0x00, 0x00, 0x00, 0x00, 0x00, 0x07, 0x01, 0x80, 0x02, 0x01, 0x00, 0x08,
+        0x00, 0x03, 0x01, 0x82, 0x00, 0x00, 0x04, 0x01,
     ];
     // From 3:01 to the bind address, D'7FFF:U'FF: the switch's command, server, UID 0x0200, member 1, no payload.
     let command = [
@@ -31,6 +31,9 @@ fn main() {
     for (device, unit) in recipients(&list, count) {
         let length = copy(&command, &mut room, device, unit).expect("a recipient can be copied to");
         let fields = read(&room[..length]).expect("a copy can be read");
-        println!("who moves: {:04X}:{:02X}", fields.destination, fields.destination_unit);
+        println!(
+            "who moves: {:04X}:{:02X}",
+            fields.destination, fields.destination_unit
+        );
     }
 }

@@ -185,7 +185,12 @@ impl Tables {
     }
 
     /// [`message`] on these tables.
-    pub fn message(&mut self, message: &[u8], reply: &mut [u8], list: &mut [u8]) -> (Outcome, usize) {
+    pub fn message(
+        &mut self,
+        message: &[u8],
+        reply: &mut [u8],
+        list: &mut [u8],
+    ) -> (Outcome, usize) {
         crate::message(
             &mut self.devices,
             &mut self.binds,
@@ -199,12 +204,26 @@ impl Tables {
 
     /// [`admit`] on these tables.
     pub fn admit(&mut self, address: u16, rights: u8, highest: u8) -> Outcome {
-        admit(&mut self.devices, &self.binds, &self.groups, &self.members, address, rights, highest)
+        admit(
+            &mut self.devices,
+            &self.binds,
+            &self.groups,
+            &self.members,
+            address,
+            rights,
+            highest,
+        )
     }
 
     /// [`release`] on these tables.
     pub fn release(&mut self, address: u16) -> Outcome {
-        release(&mut self.devices, &mut self.binds, &self.groups, &mut self.members, address)
+        release(
+            &mut self.devices,
+            &mut self.binds,
+            &self.groups,
+            &mut self.members,
+            address,
+        )
     }
 }
 
@@ -281,7 +300,13 @@ pub fn admit(
 }
 
 /// Releases a device, with its members and all binds that name it as source or individual destination.
-pub fn release(devices: &mut [u8], binds: &mut [u8], groups: &[u8], members: &mut [u8], address: u16) -> Outcome {
+pub fn release(
+    devices: &mut [u8],
+    binds: &mut [u8],
+    groups: &[u8],
+    members: &mut [u8],
+    address: u16,
+) -> Outcome {
     // SAFETY: as in `message`.
     told(unsafe {
         raw::gneissfold_release(
@@ -344,7 +369,8 @@ pub struct Fields {
 pub fn read(message: &[u8]) -> Result<Fields, Outcome> {
     let mut fields = [0u16; 12];
     // SAFETY: as in `message`; the call writes twelve numbers.
-    let number = unsafe { raw::gneissfold_read(message.as_ptr(), message.len(), fields.as_mut_ptr()) };
+    let number =
+        unsafe { raw::gneissfold_read(message.as_ptr(), message.len(), fields.as_mut_ptr()) };
     let [source, source_unit, address_type, destination, destination_unit, app_ref, kind, interface_type, uid, member, data_length, payload] =
         fields;
     match told(number) {
