@@ -1,0 +1,188 @@
+/*
+ * gneissfold: the bind and group part of a HAN-FUN concentrator, for C and C++.
+ *
+ * Link target/staticlib/libgneissfold.a, which `rt staticlib gneissfold` proves and writes (x86-64 Linux). Beside its five calls the
+ * archive asks for memcpy and memset alone. It has no state, takes no memory of its own and calls nothing back: all that a call reads or
+ * changes is lent to it by the caller, until it returns. Calls from several threads need no lock unless they are lent the same octets.
+ *
+ * What the caller owes, and no call can test:
+ *   - no pointer is NULL, also where the length that follows it is 0;
+ *   - each pointer stands before as many elements as the length that follows it says;
+ *   - what a call may write overlaps nothing else that is lent to the same call.
+ * Nothing else is owed: every call answers on any octets and any lengths, and its whole answer is proved (crates/gneissfold/src/lib.rt).
+ *
+ * "Nothing is written" below means that tables, reply, list and room keep every octet. Octets past the written ones always stay.
+ */
+#ifndef GNEISSFOLD_H
+#define GNEISSFOLD_H
+
+#include <stddef.h>
+#include <stdint.h>
+
+#ifdef __cplusplus
+extern "C" {
+#endif
+
+/* Outcomes: what every call returns. */
+enum gneissfold_outcome {
+    GNEISSFOLD_DONE = 0,                /* command handled; copy, admit, release or read done */
+    GNEISSFOLD_FORWARDED = 1,           /* message: the recipients are in the list, at least one */
+    GNEISSFOLD_NOBODY = 2,              /* message: valid, nobody to send to */
+    GNEISSFOLD_WRONG_LENGTH = 10,       /* length not 15 to 500 */
+    GNEISSFOLD_WRONG_DATA_LENGTH = 11,  /* data length is not message length less 15 */
+    GNEISSFOLD_WRONG_TYPE = 12,         /* type not 0x01 to 0x10 */
+    GNEISSFOLD_NO_SOURCE = 13,          /* source device or unit does not exist */
+    GNEISSFOLD_NO_DESTINATION = 14,     /* destination does not exist */
+    GNEISSFOLD_RESPONSE_TO_MANY = 15,   /* response type to a group or to the bind address */
+    GNEISSFOLD_UNSOUND = 16,            /* tables not sound */
+    GNEISSFOLD_NO_ROOM = 17,            /* reply or list too short */
+    GNEISSFOLD_NOT_SERVED = 18,         /* to D'0:U'0, and not one of the eleven commands */
+    GNEISSFOLD_NO_COPY = 19,            /* copy: room too short, device above 0x7FFE or unit 0xFF */
+    GNEISSFOLD_OUT_OF_RANGE = 20,       /* admit: address, rights or highest unit out of range */
+    GNEISSFOLD_ALREADY_ADMITTED = 21,   /* admit: already admitted */
+    GNEISSFOLD_NO_FREE_RECORD = 22,     /* admit: no free record */
+    GNEISSFOLD_NOT_ADMITTED = 23        /* release: not admitted */
+};
+
+/* Response codes: the first octet of a reply's payload, octet 16 of the reply. */
+enum gneissfold_code {
+    GNEISSFOLD_CODE_OK = 0x00,
+    GNEISSFOLD_CODE_NOT_AUTHORIZED = 0x01,
+    GNEISSFOLD_CODE_INVALID_ARGUMENT = 0x02,
+    GNEISSFOLD_CODE_NOT_ENOUGH_RESOURCES = 0xFE
+};
+
+/* Tables: records of one size, no header. A free record is all GNEISSFOLD_FREE, so an empty table is filled with it. */
+#define GNEISSFOLD_FREE 0xFF
+
+#define GNEISSFOLD_DEVICE_SIZE 4   /* address 2, rights 1 (0 or 1), highest unit 1 (0 to 254) */
+#define GNEISSFOLD_BIND_SIZE 8     /* source 3, interface type and UID 2, destination type and address 2, destination unit 1 */
+#define GNEISSFOLD_GROUP_SIZE 16   /* address 2, name length 1 (0 to 13), name 13 padded with 0x00 */
+#define GNEISSFOLD_MEMBER_SIZE 5   /* group 2, device 2, unit 1 */
+
+#define GNEISSFOLD_MOST_DEVICES 64
+#define GNEISSFOLD_MOST_BINDS 64
+#define GNEISSFOLD_MOST_GROUPS 16
+#define GNEISSFOLD_MOST_MEMBERS 128
+
+/* The tables at full size. Shorter ones do too: any number of whole records up to these. */
+#define GNEISSFOLD_DEVICES_LENGTH (GNEISSFOLD_DEVICE_SIZE * GNEISSFOLD_MOST_DEVICES)
+#define GNEISSFOLD_BINDS_LENGTH (GNEISSFOLD_BIND_SIZE * GNEISSFOLD_MOST_BINDS)
+#define GNEISSFOLD_GROUPS_LENGTH (GNEISSFOLD_GROUP_SIZE * GNEISSFOLD_MOST_GROUPS)
+#define GNEISSFOLD_MEMBERS_LENGTH (GNEISSFOLD_MEMBER_SIZE * GNEISSFOLD_MOST_MEMBERS)
+
+/* Messages. */
+#define GNEISSFOLD_HEADER_LENGTH 15   /* the octets before the payload, and the shortest message */
+#define GNEISSFOLD_LONGEST 500        /* the longest message, and the least room for a reply */
+
+/* The recipient list: device 2, unit 1. This length serves tables at full size. */
+#define GNEISSFOLD_RECIPIENT_SIZE 3
+#define GNEISSFOLD_LIST_LENGTH (GNEISSFOLD_RECIPIENT_SIZE * (GNEISSFOLD_MOST_BINDS + GNEISSFOLD_MOST_MEMBERS))
+
+/* Addresses. */
+#define GNEISSFOLD_CONCENTRATOR 0x0000     /* D'0000: always there, unit 0 only, never in the table */
+#define GNEISSFOLD_LOWEST_ADDRESS 0x0001   /* of devices and of groups */
+#define GNEISSFOLD_HIGHEST_ADDRESS 0x7FFE
+#define GNEISSFOLD_BIND_ADDRESS 0x7FFF     /* with unit 0xFF and of individual type */
+#define GNEISSFOLD_BIND_UNIT 0xFF
+#define GNEISSFOLD_HIGHEST_UNIT 254
+
+/* The places of the fields that gneissfold_read writes. */
+enum gneissfold_field {
+    GNEISSFOLD_SOURCE,
+    GNEISSFOLD_SOURCE_UNIT,
+    GNEISSFOLD_ADDRESS_TYPE,       /* 0 individual, 1 group */
+    GNEISSFOLD_DESTINATION,
+    GNEISSFOLD_DESTINATION_UNIT,
+    GNEISSFOLD_APP_REF,
+    GNEISSFOLD_TYPE,               /* 0x01 to 0x10 */
+    GNEISSFOLD_INTERFACE_TYPE,     /* 0 client, 1 server */
+    GNEISSFOLD_UID,
+    GNEISSFOLD_MEMBER,
+    GNEISSFOLD_DATA_LENGTH,
+    GNEISSFOLD_PAYLOAD,            /* the octet where the payload begins, counted from 1: 16 */
+    GNEISSFOLD_FIELDS
+};
+
+/*
+ * Handles a message: serves a command to D'0:U'0, or finds the recipients of any other message.
+ *
+ * Lent until the call returns: the four tables, `message` to be read, `reply` (at least GNEISSFOLD_LONGEST octets), `list` (at least
+ * 3 * max(1, bind records + member records) octets, free records counted) and `count`.
+ *
+ *   0   the reply is written, *count is its length, and the tables are as the command leaves them. Its code is reply[15].
+ *   1   the list has *count recipients, 3 octets each, by rising device and then unit, each once; reply and tables stay
+ *   2   valid, nobody to send to; nothing is written
+ *   17, 16, 10, 11, 12, 13, 15, then 18 for D'0:U'0 or 14 for the rest, in this order: refused; nothing is written
+ *
+ * *count is 0 unless stated, and always written.
+ */
+uint8_t gneissfold_message(
+    uint8_t *devices, size_t devices_length,
+    uint8_t *binds, size_t binds_length,
+    uint8_t *groups, size_t groups_length,
+    uint8_t *members, size_t members_length,
+    const uint8_t *message, size_t message_length,
+    uint8_t *reply, size_t reply_length,
+    uint8_t *list, size_t list_length,
+    size_t *count);
+
+/*
+ * Admits a device, with its rights (1: its bind and group commands are served, 0: refused with code 0x01) and its units 0 to `highest`.
+ *
+ * Lent until the call returns: the devices, to be changed, and the other three tables, to be read.
+ *
+ *   0   the device's record stands in the first free place
+ *   16, 20, 21, 22, in this order: refused; nothing is written
+ */
+uint8_t gneissfold_admit(
+    uint8_t *devices, size_t devices_length,
+    const uint8_t *binds, size_t binds_length,
+    const uint8_t *groups, size_t groups_length,
+    const uint8_t *members, size_t members_length,
+    uint16_t address, uint8_t rights, uint8_t highest);
+
+/*
+ * Releases a device, with its members and all binds that name it as source or individual destination.
+ *
+ * Lent until the call returns: devices, binds and members, to be changed, and the groups, to be read.
+ *
+ *   0   all these records are free
+ *   16, 23, in this order: refused; nothing is written
+ */
+uint8_t gneissfold_release(
+    uint8_t *devices, size_t devices_length,
+    uint8_t *binds, size_t binds_length,
+    const uint8_t *groups, size_t groups_length,
+    uint8_t *members, size_t members_length,
+    uint16_t address);
+
+/*
+ * Writes the copy of a message for one recipient: the message but for octets 4 to 6, which name the device and its unit.
+ *
+ * Lent until the call returns: `message` to be read, `room` (at least as long as the message) and `length`.
+ *
+ *   0   the copy is written, and *length is its length
+ *   10, 11, 12, 19, in this order: refused; nothing is written, and *length is 0
+ */
+uint8_t gneissfold_copy(
+    const uint8_t *message, size_t message_length,
+    uint8_t *room, size_t room_length,
+    uint16_t device, uint8_t unit,
+    size_t *length);
+
+/*
+ * Reads a message: its twelve fields, at the places of enum gneissfold_field. All twelve are written, whatever the outcome.
+ *
+ * Lent until the call returns: `message` to be read, and `fields`, always GNEISSFOLD_FIELDS numbers.
+ *
+ *   0   the fields
+ *   10, 11, 12, in this order: refused; every field is 0
+ */
+uint8_t gneissfold_read(const uint8_t *message, size_t message_length, uint16_t *fields);
+
+#ifdef __cplusplus
+}
+#endif
+
+#endif
