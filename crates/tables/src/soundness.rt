@@ -112,14 +112,17 @@ fn distinct(table: &[u8], size: usize, n: usize) -> bool
     true
 }
 
-// One table, by its octets and by what exists. Binds and members play no part in what exists.
+// One table, by its octets and by what exists. Binds and members play no part in what exists. A table of a wrong length is not looked through: it may
+// have any number of records.
 pub fn table_sound(kind: Kind, table: &[u8], devices: &[u8], groups: &[u8]) -> bool
     ensures { λ r. ⌜ ((binds members : List ℕ) → r ≡ soundTable kind (tables (lent (now (devices .entry)) binds (now (groups .entry)) members)) (now (table .entry))) ⌝ }
 {
-    let whole = whole_records(kind, table);
+    if !whole_records(kind, table) {
+        return false;
+    }
     let fit = all_fit(kind, table, devices, groups);
     let once = distinct(table, size_of(kind), key_of(kind));
-    whole & fit & once
+    fit & once
 }
 
 // Are the four tables sound? A call on tables that are not changes nothing (document 01, Outcomes, 16).

@@ -1,5 +1,7 @@
--- `tables::table_sound` meets its contract.
+-- `tables::table_sound` meets its contract: a wrong length decides, and else the records do.
+use mathlib.Core.Path.{sym, _∙_}
 use borrow.Author.Needs.{needs}
+use borrow.Author.Tests.{not-true, not-false}
 use Rattle.rules.specs.Lists.{_&_}
 use Rattle.rules.specs.Tables.{tables}
 use Rattle.rules.specs.Sound.{soundTable}
@@ -7,16 +9,21 @@ use Rattle.tables.proofs.Places.{sizes}
 use Rattle.tables.proofs.soundness.table_sound.Statement.{statement}
 use Rattle.tables.proofs.soundness.table_sound.Tie as tie
 
-distinct-requires : tie.Need-distinct-requires
-distinct-requires c κs =
-    let s = sizes (c .before .before .before .before .before .before .before .args .kind) in
-    rw (c .key-of .ensures, c .before .size-of .ensures) (s .0, s .2)
-
 returns : tie.Need-returns
 unfolding soundTable tables _&_
-returns c = λ binds members.
+returns c = λ binds members. rw (sym (c .before .whole-records .ensures) ∙ not-true _ (c .if1 .taken))
+
+distinct-requires : tie.Need-distinct-requires
+distinct-requires c κs =
+    let s = sizes (c .before .before .before .before .before .before .before .before .args .kind) in
+    rw (c .key-of .ensures, c .before .size-of .ensures) (s .0, s .2)
+
+returns-2 : tie.Need-returns-2
+unfolding soundTable tables _&_
+returns-2 c = λ binds members.
     let s = c .before .before in
-    rw (s .before .before .whole-records .ensures, s .before .all-fit .ensures, c .distinct .ensures, c .before .key-of .ensures, s .size-of .ensures)
+    let fit = s .before in
+    rw (sym (fit .before .before .whole-records .ensures) ∙ not-false _ (fit .before .if1 .left), fit .all-fit .ensures, c .distinct .ensures, c .before .key-of .ensures, s .size-of .ensures)
 
 pub table-sound-spec : {M : Type 1} → statement M
-table-sound-spec = tie.close (tie.spec (λ c κs. search needs) (λ c κs. search needs) (λ c κs. search needs) (λ c κs. search needs) distinct-requires returns)
+table-sound-spec = tie.close (tie.spec (λ c κs. search needs) returns (λ c κs. search needs) (λ c κs. search needs) (λ c κs. search needs) distinct-requires returns-2)
