@@ -12,7 +12,9 @@ ghost use Rattle.commands.specs.Handlers.{decided, deciding, removal, bi
 // Remove Bind and the four forms by ..: all binds whose octets from place `from` on are the payload's become free.
 pub fn remove_binds(binds: &mut [u8], from: usize, payload: &[u8]) -> Code
     requires { ⌜ (from + length (now payload) ≤ 8) × (1 ≤ length (now payload)) × (length (now binds) % 8 ≡ 0) ⌝ }
-    ensures { λ r. ⌜ decided r (now (binds .exit)) ≡ deciding 8 (removal from (wanted from (now (payload .entry))) (records 8 (now (binds .entry)))) (wipe (matches from (wanted from (now (payload .entry))))) (now (binds .entry)) ⌝ }
+    ensures { λ r. ⌜ decided r (now (binds .exit))
+        ≡ deciding 8 (removal from (wanted from (now (payload .entry))) (records 8 (now (binds .entry))))
+        (wipe (matches from (wanted from (now (payload .entry))))) (now (binds .entry)) ⌝ }
 {
     if from != 0 {
         return changes::remove(binds, 8, from, payload);
@@ -25,7 +27,10 @@ pub fn remove_binds(binds: &mut [u8], from: usize, payload: &[u8]) -> Code
 // Add Bind: the payload's eight octets, copied whole, if they meet the field rules.
 pub fn add_bind(devices: &[u8], binds: &mut [u8], groups: &[u8], payload: &[u8]) -> Code
     requires { ⌜ (length (now payload) ≡ 8) × (length (now binds) % 8 ≡ 0) ⌝ }
-    ensures { λ r. ⌜ decided r (now (binds .exit)) ≡ deciding 8 (bindAddition (records 4 (now (devices .entry))) (records 16 (now (groups .entry))) (bindOf (now (payload .entry))) (records 8 (now (binds .entry)))) (store (bindOf (now (payload .entry)))) (now (binds .entry)) ⌝ }
+    ensures { λ r. ⌜ decided r (now (binds .exit))
+        ≡ deciding 8 (bindAddition (records 4 (now (devices .entry))) (records 16 (now (groups .entry)))
+        (bindOf (now (payload .entry))) (records 8 (now (binds .entry))))
+        (store (bindOf (now (payload .entry)))) (now (binds .entry)) ⌝ }
 {
     let bind = decode::bind_of(payload);
     if !tables::bind_fits(bind, devices, groups) {

@@ -23,7 +23,9 @@ fn addition(table: &[u8], size: usize, record: &[u8]) -> Code
 // Adds a record to the first free place, or says why not.
 pub fn add(table: &mut [u8], size: usize, record: &[u8]) -> Code
     requires { ⌜ (0 < size) × (length (now table) % size ≡ 0) × (length (now «record») ≡ size) ⌝ }
-    ensures { λ r. ⌜ decided r (now (table .exit)) ≡ deciding size (addition (now («record» .entry)) (records size (now (table .entry)))) (store (now («record» .entry))) (now (table .entry)) ⌝ }
+    ensures { λ r. ⌜ decided r (now (table .exit))
+        ≡ deciding size (addition (now («record» .entry)) (records size (now (table .entry))))
+        (store (now («record» .entry))) (now (table .entry)) ⌝ }
 {
     let code = addition(table, size, record);
     if code.0 == 0 {
@@ -35,7 +37,9 @@ pub fn add(table: &mut [u8], size: usize, record: &[u8]) -> Code
 // Frees all records that have `want` from place `from` on, or says that none has.
 pub fn remove(table: &mut [u8], size: usize, from: usize, want: &[u8]) -> Code
     requires { ⌜ (0 < size) × (from + length (now want) ≤ size) × (length (now table) % size ≡ 0) ⌝ }
-    ensures { λ r. ⌜ decided r (now (table .exit)) ≡ deciding size (removal from (now (want .entry)) (records size (now (table .entry)))) (wipe (matches from (now (want .entry)))) (now (table .entry)) ⌝ }
+    ensures { λ r. ⌜ decided r (now (table .exit))
+        ≡ deciding size (removal from (now (want .entry)) (records size (now (table .entry))))
+        (wipe (matches from (now (want .entry)))) (now (table .entry)) ⌝ }
 {
     if !tables::has(table, size, from, want) {
         return Code::INVALID_ARGUMENT;

@@ -44,7 +44,10 @@ fn free_group(binds: &mut [u8], groups: &mut [u8], members: &mut [u8], group: Gr
 // Remove from Group: the member becomes free.
 pub fn remove_from_group(members: &mut [u8], payload: &[u8]) -> Code
     requires { ⌜ (length (now payload) ≡ 5) × (length (now members) % 5 ≡ 0) ⌝ }
-    ensures { λ r. ⌜ decided r (now (members .exit)) ≡ deciding 5 (removal 0 (memberOf (now (payload .entry))) (records 5 (now (members .entry)))) (wipe (matches 0 (memberOf (now (payload .entry))))) (now (members .entry)) ⌝ }
+    ensures { λ r. ⌜ decided r (now (members .exit))
+        ≡ deciding 5 (removal 0
+        (memberOf (now (payload .entry))) (records 5 (now (members .entry))))
+        (wipe (matches 0 (memberOf (now (payload .entry))))) (now (members .entry)) ⌝ }
 {
     let member = decode::member_of(payload);
     changes::remove(members, 5, 0, &member)
@@ -67,7 +70,9 @@ fn creation(groups: &[u8], payload: &[u8]) -> Code
 // Create Group with this address: its record goes to the first free place.
 pub fn create_group(groups: &mut [u8], group: GroupAddress, payload: &[u8]) -> Code
     requires { ⌜ (length (now payload) ≡ 1 + octet 0 (now payload)) × (length (now groups) % 16 ≡ 0) ⌝ }
-    ensures { λ r. ⌜ decided r (now (groups .exit)) ≡ deciding 16 (creation (now (payload .entry)) (records 16 (now (groups .entry)))) (store (groupRecord (group .0) (now (payload .entry)))) (now (groups .entry)) ⌝ }
+    ensures { λ r. ⌜ decided r (now (groups .exit))
+        ≡ deciding 16 (creation (now (payload .entry)) (records 16 (now (groups .entry))))
+        (store (groupRecord (group .0) (now (payload .entry)))) (now (groups .entry)) ⌝ }
 {
     let code = creation(groups, payload);
     if code.0 == 0 {
@@ -80,7 +85,8 @@ pub fn create_group(groups: &mut [u8], group: GroupAddress, payload: &[u8]) -> C
 // Delete Group: the group, its members and the binds to it become free.
 pub fn delete_group(binds: &mut [u8], groups: &mut [u8], members: &mut [u8], payload: &[u8]) -> Code
     requires { ⌜ (length (now payload) ≡ 2) × (length (now binds) % 8 ≡ 0) × (length (now groups) % 16 ≡ 0) × (length (now members) % 5 ≡ 0) ⌝ }
-    ensures { λ r. ⌜ deleted r (now (binds .exit)) (now (groups .exit)) (now (members .exit)) ≡ deleting (groupNamed (now (payload .entry))) (now (binds .entry)) (now (groups .entry)) (now (members .entry)) ⌝ }
+    ensures { λ r. ⌜ deleted r (now (binds .exit)) (now (groups .exit)) (now (members .exit))
+        ≡ deleting (groupNamed (now (payload .entry))) (now (binds .entry)) (now (groups .entry)) (now (members .entry)) ⌝ }
 {
     let group = decode::group_named(payload);
     if !tables::group_exists(groups, group) {
@@ -93,7 +99,10 @@ pub fn delete_group(binds: &mut [u8], groups: &mut [u8], members: &mut [u8], pay
 // Add to Group: group, device and unit of the payload, if they exist.
 pub fn add_to_group(devices: &[u8], groups: &[u8], members: &mut [u8], payload: &[u8]) -> Code
     requires { ⌜ (length (now payload) ≡ 5) × (length (now members) % 5 ≡ 0) ⌝ }
-    ensures { λ r. ⌜ decided r (now (members .exit)) ≡ deciding 5 (memberAddition (records 4 (now (devices .entry))) (records 16 (now (groups .entry))) (memberOf (now (payload .entry))) (records 5 (now (members .entry)))) (store (memberOf (now (payload .entry)))) (now (members .entry)) ⌝ }
+    ensures { λ r. ⌜ decided r (now (members .exit))
+        ≡ deciding 5 (memberAddition (records 4 (now (devices .entry))) (records 16 (now (groups .entry)))
+        (memberOf (now (payload .entry))) (records 5 (now (members .entry))))
+        (store (memberOf (now (payload .entry)))) (now (members .entry)) ⌝ }
 {
     let member = decode::member_of(payload);
     if !tables::member_fits(member, devices, groups) {

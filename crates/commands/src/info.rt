@@ -44,7 +44,8 @@ fn write_info(record: &[u8], members: &[u8], group: GroupAddress, out: &mut [u8]
 
 // Get Group Info: 0x02 if the group is absent, else its name and its members.
 pub fn get_group_info(groups: &[u8], members: &[u8], payload: &[u8], out: &mut [u8]) -> usize
-    requires { ⌜ (all groupFits (used (records 16 (now groups))) ≡ true) × (length (now members) ≤ 640) × (length (now payload) ≡ 2) × (485 ≤ length (now out)) ⌝ }
+    requires { ⌜ (all groupFits (used (records 16 (now groups))) ≡ true)
+        × (length (now members) ≤ 640) × (length (now payload) ≡ 2) × (485 ≤ length (now out)) ⌝ }
     ensures { λ r. ⌜ (r ≡ length (infoPayload (groupNamed (now (payload .entry))) (records 16 (now (groups .entry))) (records 5 (now (members .entry)))))
         × (now (out .exit) ≡ over (infoPayload (groupNamed (now (payload .entry))) (records 16 (now (groups .entry))) (records 5 (now (members .entry)))) (now (out .entry))) ⌝ }
 {

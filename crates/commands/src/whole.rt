@@ -25,7 +25,8 @@ fn act(
     payload: &[u8],
     out: &mut [u8],
 ) -> usize
-    requires { ⌜ (sound (lent (now devices) (now binds) (now groups) (now members)) ≡ true) × (payloadFits command (now payload) ≡ true) × Served command × (485 ≤ length (now out)) ⌝ }
+    requires { ⌜ (sound (lent (now devices) (now binds) (now groups) (now members)) ≡ true)
+        × (payloadFits command (now payload) ≡ true) × Served command × (485 ≤ length (now out)) ⌝ }
     ensures { λ r. ⌜ performed r (lent (now (devices .entry)) (now (binds .exit)) (now (groups .exit)) (now (members .exit))) (now (out .exit))
         ≡ acting (lent (now (devices .entry)) (now (binds .entry)) (now (groups .entry)) (now (members .entry))) command (now (payload .entry)) (now (out .entry)) ⌝ }
 {

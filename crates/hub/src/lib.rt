@@ -4,7 +4,6 @@ mod decide;
 mod host;
 
 pub use act::message;
-pub use decide::way_of;
 pub use host::admit;
 pub use host::release;
 pub use messages::copy;

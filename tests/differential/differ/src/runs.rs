@@ -1,0 +1,177 @@
+//! Long random runs from free tables, compared with the history ("condition
+//! 3 .. over any run").
+
+use crate::case::{hexadecimal, Answer, Call, Case, World};
+use crate::generate::{self, View, REQUESTS, UIDS};
+use crate::history::{octets, Entry, History, Standing, Unit};
+use crate::rng::Rng;
+use crate::single::{admit, least_list, release_address};
+use crate::tally::Tally;
+
+/// Most senders asked after at one check.
+const ASKED: usize = 10;
+
+pub struct Runs<'a> {
+    pub rng: &'a mut Rng,
+    pub tally: &'a mut Tally,
+    /// Whether each call is compared with the other reading too. Without it
+    /// the history alone judges the part.
+    pub compare: bool,
+}
+
+impl Runs<'_> {
+    pub fn try_runs(&mut self, runs: usize, length: usize) -> Result<(), String> {
+        for at in 0..runs {
+            self.try_run(length).map_err(|report| format!("run {at}: {report}"))?;
+        }
+        Ok(())
+    }
+
+    fn try_run(&mut self, length: usize) -> Result<(), String> {
+        let mut world = generate::free_world(self.rng);
+        let mut history = History::default();
+        for at in 0..length {
+            let call = self.some_call(&world, at);
+            let answer = self.made(&world, call.clone())?;
+            if let Some(entry) = Entry::of(&call, &answer) {
+                history.push(entry);
+            }
+            world = answer.world;
+            if at + 1 == length || self.rng.percent(1) {
+                self.check(&world, &history).map_err(|report| {
+                    format!("after {} calls: {report}\nHISTORY\n{}", at + 1, history.printed())
+                })?;
+            }
+        }
+        Ok(())
+    }
+
+    fn made(&mut self, world: &World, call: Call) -> Result<Answer, String> {
+        let case = Case { world: world.clone(), call };
+        self.tally.before(&case);
+        let answer = if self.compare { case.compared()? } else { case.by_part() };
+        self.tally.after(&answer);
+        if answer.outside {
+            return Err(format!("octets outside a lent slice were changed\nCASE\n{case}"));
+        }
+        Ok(answer)
+    }
+
+    fn some_call(&mut self, world: &World, at: usize) -> Call {
+        let rng = &mut *self.rng;
+        let view = View::of(world);
+        // Without devices nothing else comes about, so a run begins with some.
+        let admissions = if at < 8 { 70 } else { 6 };
+        if rng.percent(admissions) {
+            return admit(rng);
+        }
+        if rng.percent(1) {
+            return Call::Release { address: release_address(rng, world) };
+        }
+        let mut msg = if rng.percent(90) { view.command(rng) } else { view.forward(rng) };
+        if rng.percent(1) {
+            generate::damage(rng, &mut msg);
+        }
+        self.message(world, msg)
+    }
+
+    fn message(&mut self, world: &World, msg: Vec<u8>) -> Call {
+        let reply = self.rng.octets(500);
+        let list = self.rng.octets(least_list(world));
+        Call::Message { msg, reply, list }
+    }
+
+    /// Asks the part and compares with what the history says.
+    fn check(&mut self, world: &World, history: &History) -> Result<(), String> {
+        let standing = Standing::of(history);
+        let ever = history.binds_ever();
+        for _ in 0..ASKED.min(ever.len() + 1) {
+            let (sender, interface) = match self.rng.pick(&ever) {
+                Some(bind) if self.rng.percent(95) => {
+                    ((generate::word(&bind, 0), bind[2]), generate::word(&bind, 3))
+                }
+                _ => ((0, 0), 0x8000 | UIDS[self.rng.below(UIDS.len())]),
+            };
+            let expected = standing.linked(sender, interface);
+            self.check_forward(world, &standing, sender, [0x7F, 0xFF, 0xFF], interface, &expected)?;
+        }
+        for group in history.groups_ever() {
+            self.check_info(world, &standing, group)?;
+            if standing.groups.iter().any(|there| there.0 == group) {
+                let sender = self.some_sender(&standing);
+                let expected = standing.in_group(sender, group);
+                let [high, low] = (group | 0x8000).to_be_bytes();
+                self.check_forward(world, &standing, sender, [high, low, 0xFF], 0x8200, &expected)?;
+            }
+        }
+        Ok(())
+    }
+
+    /// A member or any admitted unit, by the history.
+    fn some_sender(&mut self, standing: &Standing) -> Unit {
+        match (self.rng.pick(&standing.members), self.rng.pick(&standing.devices)) {
+            (Some(member), _) if self.rng.percent(60) => (generate::word(&member, 2), member[4]),
+            (_, Some((device, highest))) => (device, highest),
+            _ => (0, 0),
+        }
+    }
+
+    fn check_forward(
+        &mut self,
+        world: &World,
+        standing: &Standing,
+        sender: Unit,
+        destination: [u8; 3],
+        interface: u16,
+        expected: &[Unit],
+    ) -> Result<(), String> {
+        let kind = REQUESTS[self.rng.below(REQUESTS.len())];
+        let mut msg = octets(&[sender]);
+        msg.extend_from_slice(&destination);
+        msg.extend_from_slice(&[0, 0, self.rng.octet(), kind]);
+        msg.extend_from_slice(&interface.to_be_bytes());
+        msg.extend_from_slice(&[1, 0, 0]);
+        let outcome = match (standing.exists(sender), expected.is_empty()) {
+            (false, _) => 13,
+            (true, true) => 2,
+            (true, false) => 1,
+        };
+        let expected = if outcome == 1 { octets(expected) } else { Vec::new() };
+        let call = self.message(world, msg.clone());
+        let answer = self.made(world, call)?;
+        let there = match &answer.call {
+            Call::Message { list, .. } => &list[..(3 * answer.count).min(list.len())],
+            _ => &[],
+        };
+        if answer.outcome == outcome && there == expected && answer.count == expected.len() / 3 {
+            return Ok(());
+        }
+        Err(format!(
+            "the history links others\n  message {}\n  expected outcome {outcome} list {}\n{answer}",
+            hexadecimal(&msg),
+            hexadecimal(&expected),
+        ))
+    }
+
+    fn check_info(&mut self, world: &World, standing: &Standing, group: u16) -> Result<(), String> {
+        let sender = self.some_sender(standing);
+        let mut msg = octets(&[sender]);
+        msg.extend_from_slice(&[0, 0, 0, 0, 0, self.rng.octet(), 2, 0x80, 3, 5, 0, 2]);
+        msg.extend_from_slice(&group.to_be_bytes());
+        let expected = standing.info(group);
+        let call = self.message(world, msg.clone());
+        let answer = self.made(world, call)?;
+        let there = match &answer.call {
+            Call::Message { reply, .. } => reply.get(15..answer.count).unwrap_or(&[]),
+            _ => &[],
+        };
+        if answer.outcome == 0 && there == expected {
+            return Ok(());
+        }
+        Err(format!(
+            "the history counts others\n  message {}\n  expected payload {}\n{answer}",
+            hexadecimal(&msg),
+            hexadecimal(&expected),
+        ))
+    }
+}

@@ -1,0 +1,81 @@
+//! Counts what was tried, so that a test that tried nothing shows.
+
+use crate::case::{Answer, Call, Case};
+use crate::generate::COMMANDS;
+use std::collections::BTreeMap;
+
+#[derive(Default)]
+pub struct Tally {
+    pub calls: usize,
+    /// Prints each case before it is made, to find one that ends the program.
+    each: bool,
+    outcomes: BTreeMap<(&'static str, u8), usize>,
+    codes: BTreeMap<((u8, u8), u8), usize>,
+}
+
+impl Tally {
+    pub fn new(each: bool) -> Tally {
+        Tally { each, ..Tally::default() }
+    }
+
+    pub fn before(&mut self, case: &Case) {
+        if self.each {
+            eprint!("call {}\n{case}", self.calls);
+        }
+        self.calls += 1;
+    }
+
+    pub fn after(&mut self, answer: &Answer) {
+        let name = match &answer.call {
+            Call::Message { .. } => "message",
+            Call::Admit { .. } => "admit",
+            Call::Release { .. } => "release",
+            Call::Copy { .. } => "copy",
+            Call::Read { .. } => "read",
+        };
+        *self.outcomes.entry((name, answer.outcome)).or_default() += 1;
+        if let (Call::Message { msg, reply, .. }, 0) = (&answer.call, answer.outcome) {
+            *self.codes.entry(((msg[11], msg[12]), reply[15])).or_default() += 1;
+        }
+    }
+
+    pub fn print(&self) {
+        for ((name, outcome), times) in &self.outcomes {
+            println!("  {name} outcome {outcome}: {times}");
+        }
+        for (((uid, member), code), times) in &self.codes {
+            println!("  command {uid:02X}.{member:02X} code {code:02X}: {times}");
+        }
+    }
+
+    /// Outcomes and codes of the paper that never came up.
+    pub fn missing(&self) -> Vec<String> {
+        let outcomes: [(&'static str, &[u8]); 5] = [
+            ("message", &[0, 1, 2, 10, 11, 12, 13, 14, 15, 16, 17, 18]),
+            ("admit", &[0, 16, 20, 21, 22]),
+            ("release", &[0, 16, 23]),
+            ("copy", &[0, 10, 11, 12, 19]),
+            ("read", &[0, 10, 11, 12]),
+        ];
+        let mut missing = Vec::new();
+        for (name, numbers) in outcomes {
+            let never = numbers.iter().filter(|&&number| !self.outcomes.contains_key(&(name, number)));
+            missing.extend(never.map(|number| format!("{name} outcome {number}")));
+        }
+        for command in COMMANDS {
+            let codes = codes_of(command).iter();
+            let never = codes.filter(|&&code| !self.codes.contains_key(&(command, code)));
+            missing.extend(never.map(|code| format!("command {command:02X?} code {code:02X}")));
+        }
+        missing
+    }
+}
+
+/// The codes that a command can answer ("Commands and codes").
+fn codes_of(command: (u8, u8)) -> &'static [u8] {
+    match command {
+        (2, 1) | (3, 1) | (3, 3) => &[0x00, 0x01, 0x02, 0xFE],
+        (3, 5) => &[0x00, 0x02],
+        _ => &[0x00, 0x01, 0x02],
+    }
+}
