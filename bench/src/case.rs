@@ -1,0 +1,185 @@
+//! The cases that are measured: tables, a call, and the outcome that it must have, so that no figure is of a call that went another way.
+
+/// What is lent to every call.
+#[derive(Clone)]
+pub struct State {
+    pub devices: Vec<u8>,
+    pub binds: Vec<u8>,
+    pub groups: Vec<u8>,
+    pub members: Vec<u8>,
+    pub reply: Vec<u8>,
+    pub list: Vec<u8>,
+}
+
+pub enum Call {
+    Message(Vec<u8>),
+    Release(u16),
+}
+
+pub struct Case {
+    pub name: String,
+    pub call: Call,
+    pub state: State,
+    /// Outcome, and count or length.
+    pub answer: (u8, usize),
+}
+
+const DEVICES: u16 = 64;
+/// The interface of the switch's messages and binds: server, UID 0x0200.
+const INTERFACE: u16 = 0x8200;
+const GROUP: u16 = 1;
+const BIND_MANAGEMENT: u16 = 0x8002;
+const GROUP_MANAGEMENT: u16 = 0x8003;
+const CONCENTRATOR: (u16, u8) = (0, 0);
+const BIND_ADDRESS: (u16, u8) = (0x7FFF, 0xFF);
+const GROUP_TYPE: u16 = 0x8000;
+const SWITCH: (u16, u8) = (1, 0);
+
+fn word(octets: &mut Vec<u8>, number: u16) {
+    octets.extend_from_slice(&number.to_be_bytes());
+}
+
+fn filled(mut used: Vec<u8>, size: usize, records: usize) -> Vec<u8> {
+    used.resize(size * records, 0xFF);
+    used
+}
+
+fn message(from: (u16, u8), to: (u16, u8), interface: u16, member: u8, payload: &[u8]) -> Vec<u8> {
+    let mut octets = Vec::new();
+    word(&mut octets, from.0);
+    octets.push(from.1);
+    word(&mut octets, to.0);
+    octets.push(to.1);
+    octets.extend_from_slice(&[0, 0, 7, 1]);
+    word(&mut octets, interface);
+    octets.push(member);
+    word(&mut octets, payload.len() as u16);
+    octets.extend_from_slice(payload);
+    octets
+}
+
+/// The n-th unit that is neither of the switch's device nor there before: devices 2 to 64, one unit after the other.
+fn unit(n: usize) -> (u16, u8) {
+    let others = usize::from(DEVICES) - 1;
+    ((2 + n % others) as u16, (n / others) as u8)
+}
+
+fn bind(from: (u16, u8), to: (u16, u8)) -> Vec<u8> {
+    let mut octets = Vec::new();
+    word(&mut octets, from.0);
+    octets.push(from.1);
+    word(&mut octets, INTERFACE);
+    word(&mut octets, to.0);
+    octets.push(to.1);
+    octets
+}
+
+/// 64 devices; `binds` binds, of which the first `matching` are the switch's; 16 groups; `members` members, all of the first group.
+fn state(binds: usize, matching: usize, members: usize, room: (usize, usize)) -> State {
+    let mut devices = Vec::new();
+    for address in 1..=DEVICES {
+        word(&mut devices, address);
+        devices.extend_from_slice(&[1, 3]);
+    }
+    let mut bound = Vec::new();
+    for n in 0..binds {
+        let from = if n < matching { SWITCH } else { (SWITCH.0, SWITCH.1 + 1) };
+        bound.extend(bind(from, unit(n)));
+    }
+    let mut groups = Vec::new();
+    for address in 1..=16 {
+        word(&mut groups, address);
+        groups.push(7);
+        groups.extend_from_slice(b"Bedroom\0\0\0\0\0\0");
+    }
+    let mut group = Vec::new();
+    for n in 0..members {
+        word(&mut group, GROUP);
+        // From the highest unit down, so that putting them in order is work.
+        let (device, unit) = unit(members - 1 - n);
+        word(&mut group, device);
+        group.push(unit);
+    }
+    State {
+        devices,
+        binds: filled(bound, 8, room.0),
+        groups,
+        members: filled(group, 5, room.1),
+        reply: vec![0; 500],
+        list: vec![0; 3 * (room.0 + room.1).max(1)],
+    }
+}
+
+const FULL: (usize, usize) = (64, 128);
+
+fn to_binds(name: &str, state: State, recipients: usize) -> Case {
+    let call = Call::Message(message(SWITCH, BIND_ADDRESS, INTERFACE, 1, &[]));
+    Case { name: name.into(), call, state, answer: (1, recipients) }
+}
+
+fn to_group(name: &str, state: State, recipients: usize) -> Case {
+    let call = Call::Message(message(SWITCH, (GROUP_TYPE | GROUP, 0), INTERFACE, 1, &[]));
+    Case { name: name.into(), call, state, answer: (1, recipients) }
+}
+
+/// The cases of docs/FIGURES.md.
+pub fn cases() -> Vec<Case> {
+    let full = || state(64, 64, 128, FULL);
+    vec![
+        Case {
+            name: "refused: no room for the answer (17)".into(),
+            call: Call::Message(message(SWITCH, BIND_ADDRESS, INTERFACE, 1, &[])),
+            state: State { reply: vec![0; 499], ..full() },
+            answer: (17, 0),
+        },
+        Case {
+            name: "refused: 14 octets (10)".into(),
+            call: Call::Message(vec![0; 14]),
+            state: full(),
+            answer: (10, 0),
+        },
+        Case {
+            name: "refused: no such sender (13)".into(),
+            call: Call::Message(message((99, 0), BIND_ADDRESS, INTERFACE, 1, &[])),
+            state: full(),
+            answer: (13, 0),
+        },
+        Case {
+            name: "Add Bind, one record free".into(),
+            call: Call::Message(message(SWITCH, CONCENTRATOR, BIND_MANAGEMENT, 1, &bind(SWITCH, unit(63)))),
+            state: state(63, 63, 128, FULL),
+            answer: (0, 16),
+        },
+        to_binds("delivery, 1 matching bind of 64", state(64, 1, 128, FULL), 1),
+        to_binds("delivery, 16 matching binds of 64", state(64, 16, 128, FULL), 16),
+        to_binds("delivery, 64 matching binds of 64", full(), 64),
+        to_group("delivery, group of 128", full(), 128),
+        Case {
+            name: "Get Group Info, 128 members".into(),
+            call: Call::Message(message(SWITCH, CONCENTRATOR, GROUP_MANAGEMENT, 5, &GROUP.to_be_bytes())),
+            state: full(),
+            answer: (0, 15 + 1 + 1 + 7 + 2 + 3 * 128),
+        },
+        Case { name: "release".into(), call: Call::Release(2), state: full(), answer: (0, 0) },
+    ]
+}
+
+/// How cost grows with records: a message to a group whose members fill their table, and no binds.
+pub fn growth() -> Vec<Case> {
+    let mut cases = Vec::new();
+    for n in [0, 8, 16, 32, 64, 128] {
+        let name = format!("group of {n}, {n} member records");
+        let mut case = to_group(&name, state(0, 0, n, (0, n)), n);
+        if n == 0 {
+            case.answer = (2, 0);
+        }
+        cases.push(case);
+    }
+    for n in [0, 8, 16, 32, 64, 128] {
+        let name = format!("group of 0, {n} free member records");
+        let mut case = to_group(&name, state(0, 0, 0, (0, n)), n);
+        case.answer = (2, 0);
+        cases.push(case);
+    }
+    cases
+}

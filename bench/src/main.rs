@@ -1,0 +1,120 @@
+//! Measures the part and the other reading on the same calls.
+//!
+//! bench names|growth-names     the cases, one a line
+//! bench count CASE part|other  makes the case's call once inside `measured`, for callgrind's --toggle-collect
+//! bench time                   nanoseconds a call, for every case: part, other
+//! bench stack                  octets of stack that the part's deepest call takes
+
+mod case;
+mod stack;
+
+use case::{Call, Case, State};
+use std::hint::black_box;
+use std::process::ExitCode;
+use std::time::Instant;
+
+#[derive(Clone, Copy, PartialEq)]
+enum Reading {
+    Part,
+    Other,
+}
+
+fn part(state: &mut State, call: &Call) -> (u8, usize) {
+    let State { devices, binds, groups, members, reply, list } = state;
+    match call {
+        Call::Message(octets) => {
+            let (outcome, count) = gneissfold::message(devices, binds, groups, members, octets, reply, list);
+            (outcome.number(), count)
+        }
+        Call::Release(address) => (gneissfold::release(devices, binds, groups, members, *address).number(), 0),
+    }
+}
+
+fn other(state: &mut State, call: &Call) -> (u8, usize) {
+    let State { devices, binds, groups, members, reply, list } = state;
+    let mut count = 0;
+    let outcome = match call {
+        Call::Message(octets) => {
+            other_reading::message(devices, binds, groups, members, octets, reply, list, &mut count)
+        }
+        Call::Release(address) => other_reading::release(devices, binds, groups, members, *address),
+    };
+    (outcome, count)
+}
+
+/// Callgrind counts from its first instruction to its return.
+#[no_mangle]
+#[inline(never)]
+extern "C" fn measured(reading: u8, state: &mut State, call: &Call, answer: &mut (u8, usize)) {
+    *answer = if reading == Reading::Part as u8 { part(state, call) } else { other(state, call) };
+}
+
+fn once(reading: Reading, state: &mut State, case: &Case) {
+    let mut answer = (255, 0);
+    measured(black_box(reading as u8), black_box(state), black_box(&case.call), &mut answer);
+    assert_eq!(answer, case.answer, "{}", case.name);
+}
+
+fn lend(to: &mut State, from: &State) {
+    to.devices.copy_from_slice(&from.devices);
+    to.binds.copy_from_slice(&from.binds);
+    to.members.copy_from_slice(&from.members);
+}
+
+/// Nanoseconds of one call: the least of ten rounds, less what lending the tables anew takes.
+fn nanoseconds(reading: Reading, case: &Case) -> f64 {
+    const CALLS: u32 = 2_000;
+    let mut state = case.state.clone();
+    let mut least = f64::MAX;
+    let mut lending = f64::MAX;
+    for _ in 0..10 {
+        let begun = Instant::now();
+        for _ in 0..CALLS {
+            lend(black_box(&mut state), black_box(&case.state));
+            once(reading, &mut state, case);
+        }
+        least = least.min(begun.elapsed().as_secs_f64());
+        let begun = Instant::now();
+        for _ in 0..CALLS {
+            lend(black_box(&mut state), black_box(&case.state));
+        }
+        lending = lending.min(begun.elapsed().as_secs_f64());
+    }
+    (least - lending) * 1e9 / f64::from(CALLS)
+}
+
+fn all() -> Vec<Case> {
+    let mut cases = case::cases();
+    cases.extend(case::growth());
+    cases
+}
+
+fn main() -> ExitCode {
+    let words: Vec<String> = std::env::args().skip(1).collect();
+    let words: Vec<&str> = words.iter().map(String::as_str).collect();
+    match words[..] {
+        ["names"] => case::cases().iter().for_each(|case| println!("{}", case.name)),
+        ["growth-names"] => case::growth().iter().for_each(|case| println!("{}", case.name)),
+        ["count", name, reading @ ("part" | "other")] => {
+            let case = all().into_iter().find(|case| case.name == name).expect("a case's name");
+            let reading = if reading == "part" { Reading::Part } else { Reading::Other };
+            once(reading, &mut case.state.clone(), &case);
+        }
+        ["time"] => {
+            for case in all() {
+                let part = nanoseconds(Reading::Part, &case);
+                let other = nanoseconds(Reading::Other, &case);
+                println!("{}\t{part:.0}\t{other:.0}", case.name);
+            }
+        }
+        ["stack"] => {
+            let deepest = all().into_iter().map(|case| (stack::used_by(&case), case.name)).max().expect("a case");
+            println!("{}\t{}", deepest.1, deepest.0);
+        }
+        _ => {
+            eprintln!("usage: bench names|growth-names|count CASE part|other|time|stack");
+            return ExitCode::from(2);
+        }
+    }
+    ExitCode::SUCCESS
+}
