@@ -118,12 +118,11 @@ pub fn way_of(
     ensures { λ r. ⌜ r ≡ way (lent (now (devices .entry)) (now (binds .entry)) (now (groups .entry)) (now (members .entry)))
         (now (msg .entry)) (now (reply .entry)) (now (list .entry)) ⌝ }
 {
-    let room = roomy(binds, members, reply, list);
-    let sound = tables::sound(devices, binds, groups, members);
-    let outcome = messages::read_outcome(msg);
-    if !room {
+    if !roomy(binds, members, reply, list) {
         return Way::Refuse(Outcome::NoRoom);
     }
+    let sound = tables::sound(devices, binds, groups, members);
+    let outcome = messages::read_outcome(msg);
     if !sound {
         return Way::Refuse(Outcome::Unsound);
     }
