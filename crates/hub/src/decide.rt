@@ -118,7 +118,8 @@ pub fn way_of(
     ensures { λ r. ⌜ r ≡ way (lent (now (devices .entry)) (now (binds .entry)) (now (groups .entry)) (now (members .entry)))
         (now (msg .entry)) (now (reply .entry)) (now (list .entry)) ⌝ }
 {
-    if !roomy(binds, members, reply, list) {
+    let room = roomy(binds, members, reply, list);
+    if !room {
         return Way::Refuse(Outcome::NoRoom);
     }
     let sound = tables::sound(devices, binds, groups, members);
