@@ -119,11 +119,11 @@ pub fn way_of(
         (now (msg .entry)) (now (reply .entry)) (now (list .entry)) ⌝ }
 {
     let room = roomy(binds, members, reply, list);
-    let sound = tables::sound(devices, binds, groups, members);
-    let outcome = messages::read_outcome(msg);
     if !room {
         return Way::Refuse(Outcome::NoRoom);
     }
+    let sound = tables::sound(devices, binds, groups, members);
+    let outcome = messages::read_outcome(msg);
     if !sound {
         return Way::Refuse(Outcome::Unsound);
     }

@@ -2,6 +2,7 @@
 pub mod Lists
 pub mod Records
 pub mod Apart
+pub mod First
 pub mod Whole
 pub mod Rows
 pub mod RoundTrip

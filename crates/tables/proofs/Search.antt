@@ -1,5 +1,5 @@
 -- Laws of a search of a table's used records, and of the loops that ask something of them.
-use mathlib.Core.Path.{_≡_, refl, _∙_}
+use mathlib.Core.Path.{_≡_, refl, sym, ap, _∙_}
 use mathlib.Core.Bool.{Bool, true, false, cond, not, _&&_, _||_}
 use mathlib.Core.List.{List, [], _∷_}
 use Prim.Native.Nat.{ℕ, _+_, _-_, _≤_, _<_}
@@ -34,6 +34,15 @@ any-hit q r t e = any-used q r t ∙ rw e
 
 pub any-miss : (q : Rec → Bool) (r : Rec) (t : List Rec) → passes q r ≡ false → any q (used (r ∷ t)) ≡ any q (used t)
 any-miss q r t e = any-used q r t ∙ rw e
+
+-- one record by itself: where it is free nothing is asked of it
+pub free-passes : (q : Rec → Bool) {r s : Rec} {b : Bool} → s ≡ r → b ≡ free? s → b ≡ true → true ≡ freeOr q r
+unfolding freeOr
+free-passes q {r} {s} {b} e h f = let g : free? r ≡ true = ap free? (sym e) ∙ sym h ∙ f in rw g
+
+pub used-asked : (q : Rec → Bool) {r s : Rec} {b : Bool} → s ≡ r → b ≡ free? s → b ≡ false → q r ≡ freeOr q r
+unfolding freeOr
+used-asked q {r} {s} {b} e h f = let g : free? r ≡ false = ap free? (sym e) ∙ sym h ∙ f in rw g
 
 -- the loop that asks whether all used records pass, as `if !b` does of the record s: the record r decides, or it makes no difference
 pub all-hit : (q : Rec → Bool) {r s : Rec} {b : Bool} (t : List Rec) → s ≡ r → b ≡ freeOr q s → not b ≡ true → all q (used (r ∷ t)) ≡ false

@@ -23,9 +23,10 @@ pub fn matches_at(table: &[u8], size: usize, at: usize, from: usize, want: &[u8]
     requires { ⌜ (at + size ≤ length (now table)) × (from + length (now want) ≤ size) ⌝ }
     ensures { λ r. ⌜ r ≡ passes (matches from (now (want .entry))) (take size (drop at (now (table .entry)))) ⌝ }
 {
-    let free = free_at(table, size, at);
-    let same = octets::same_at(table, at + from, want);
-    !free & same
+    if !octets::same_at(table, at + from, want) {
+        return false;
+    }
+    !free_at(table, size, at)
 }
 
 // The first used record that has `want` from its place `from` on: what a command or a lookup names.

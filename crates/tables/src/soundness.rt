@@ -66,9 +66,10 @@ fn free_or_fits(kind: Kind, rec: &[u8], devices: &[u8], groups: &[u8]) -> bool
     requires { ⌜ length (now rec) ≡ size kind ⌝ }
     ensures { λ r. ⌜ r ≡ freeOr (fits kind (records (size Devices) (now (devices .entry))) (records (size Groups) (now (groups .entry)))) (now (rec .entry)) ⌝ }
 {
-    let free = records::free_at(rec, rec.len(), 0);
-    let fit = fields::fits(kind, rec, devices, groups);
-    free | fit
+    if records::free_at(rec, rec.len(), 0) {
+        return true;
+    }
+    fields::fits(kind, rec, devices, groups)
 }
 
 // .. for every record of a table.
@@ -91,9 +92,10 @@ fn free_or_last(rec: &[u8], later: &[u8], size: usize, n: usize) -> bool
     requires { ⌜ (0 < size) × (n ≤ size) × (length (now rec) ≡ size) ⌝ }
     ensures { λ r. ⌜ r ≡ freeOr (notAgain n (records size (now (later .entry)))) (now (rec .entry)) ⌝ }
 {
-    let free = records::free_at(rec, size, 0);
-    let again = records::has(later, size, 0, &rec[..n]);
-    free | !again
+    if records::free_at(rec, size, 0) {
+        return true;
+    }
+    !records::has(later, size, 0, &rec[..n])
 }
 
 // "no address is there twice in devices or groups, no used record twice in binds or members"

@@ -1,6 +1,9 @@
 -- `tables::matches_at` meets its contract. A record is tested where it stands in the table.
+use mathlib.Core.Path.{sym, _∙_}
+use mathlib.Core.Bool.{and-true, and-false}
 use native.Mathlib.Omega.{arith}
 use borrow.Author.Needs.{needs}
+use borrow.Author.Tests.{not-true, not-false}
 use Rattle.rules.proofs.Records.{matches-at}
 use Rattle.tables.specs.Search.{passes}
 use Rattle.tables.proofs.records.matches_at.Statement.{statement}
@@ -10,8 +13,14 @@ returns : tie.Need-returns
 unfolding passes
 returns c =
     let a = c .before .before .before .before .args in
-    let m = matches-at (a .from) (a .size) (a .at) (a .want .now) (a .table .now) (omega arith) (c .same-at .ensures) in
-    rw (c .before .free-at .ensures, m)
+    rw (matches-at (a .from) (a .size) (a .at) (a .want .now) (a .table .now) (omega arith) (sym (not-true _ (c .if1 .taken)) ∙ c .before .same-at .ensures), and-false)
+
+returns-2 : tie.Need-returns-2
+unfolding passes
+returns-2 c =
+    let a = c .before .before .before .before .before .args in
+    let m = matches-at (a .from) (a .size) (a .at) (a .want .now) (a .table .now) (omega arith) (sym (not-false _ (c .before .if1 .left)) ∙ c .before .before .same-at .ensures) in
+    rw (c .free-at .ensures, m, and-true)
 
 pub matches-at-spec : {M : Type 1} → statement M
-matches-at-spec = tie.close (tie.spec (λ c κs. search needs) (λ c. search needs) (λ c κs. search needs) returns)
+matches-at-spec = tie.close (tie.spec (λ c. search needs) (λ c κs. search needs) returns (λ c κs. search needs) returns-2)
