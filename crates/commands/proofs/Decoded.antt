@@ -73,8 +73,3 @@ wanted-source p z = rw z
 pub wanted-destination : {from : ℕ} (p : List ℕ) → (from ≡ 0 → ⊥) → p ≡ wanted from p
 unfolding wanted
 wanted-destination {from} p z = rw (ne-eqb from 0 z)
-
-pub length-ignored : (p : List ℕ) → length (ignoreTop p) ≡ length p
-unfolding ignoreTop
-length-ignored [] = refl
-length-ignored (o ∷ p) = refl

@@ -11,13 +11,15 @@ fn addition(table: &[u8], size: usize, record: &[u8]) -> Code
     requires { ⌜ (0 < size) × (length (now «record») ≡ size) ⌝ }
     ensures { λ r. ⌜ r ≡ addition (now («record» .entry)) (records size (now (table .entry))) ⌝ }
 {
-    if tables::has(table, size, 0, record) {
-        return Code::INVALID_ARGUMENT;
+    let there = tables::has(table, size, 0, record);
+    let room = tables::has_room(table, size);
+    if there {
+        Code::INVALID_ARGUMENT
+    } else if !room {
+        Code::NOT_ENOUGH_RESOURCES
+    } else {
+        Code::OK
     }
-    if !tables::has_room(table, size) {
-        return Code::NOT_ENOUGH_RESOURCES;
-    }
-    Code::OK
 }
 
 // Adds a record to the first free place, or says why not.

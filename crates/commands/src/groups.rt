@@ -75,7 +75,8 @@ pub fn create_group(groups: &mut [u8], group: GroupAddress, payload: &[u8]) -> C
         (store (groupRecord (group .0) (now (payload .entry)))) (now (groups .entry)) ⌝ }
 {
     let code = creation(groups, payload);
-    if code.0 == 0 {
+    let stores = code.0 == Code::OK.0;
+    if stores {
         let record = decode::group_record(group, payload);
         tables::store(groups, 16, &record);
     }

@@ -87,7 +87,8 @@ pub fn store(table: &mut [u8], size: usize, record: &[u8])
 {
     let mut at = 0;
     while size <= table.len() - at {
-        if free_at(table, size, at) {
+        let free = free_at(table, size, at);
+        if free {
             octets::write_at(table, at, record);
             return;
         }

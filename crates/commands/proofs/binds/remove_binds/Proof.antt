@@ -1,9 +1,9 @@
 -- `commands::binds::remove_binds` meets its contract: what it looks for is the payload, a source's top bit ignored.
 use mathlib.Core.Path.{_≡_, sym, ap, _∙_}
 use native.Mathlib.Omega.{arith}
-use lib.ListN.{length}
+use lib.ListN.{length-take}
 use denote.Ref.{now}
-use Rattle.commands.proofs.Decoded.{wanted-source, wanted-destination, length-ignored}
+use Rattle.commands.proofs.Decoded.{wanted-source, wanted-destination}
 use borrow.Author.Needs.{needs}
 use Rattle.commands.proofs.binds.remove_binds.Statement.{statement}
 use Rattle.commands.proofs.binds.remove_binds.Tie as tie
@@ -12,10 +12,10 @@ returns : tie.Need-returns
 returns c = rw (← wanted-destination (now (c .before .before .before .before .before .before .before .args .payload)) (c .before .before .before .before .if1 .taken)) (c .before .before .remove .ensures)
 
 slice-aggregate-remove : tie.Need-slice-aggregate-remove
-slice-aggregate-remove c = rw (c .before .before .source-wanted .ensures, length-ignored)
+slice-aggregate-remove c = simp length-take (omega arith)
 
 remove-requires-2 : tie.Need-remove-requires-2
-remove-requires-2 c κs = rw (c .before .before .source-wanted .ensures, length-ignored) (omega (arith, c .before .before .before .before .before .before .pre))
+remove-requires-2 c κs = simp length-take (omega arith)
 
 returns-2 : tie.Need-returns-2
 returns-2 c =

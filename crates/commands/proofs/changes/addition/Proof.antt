@@ -11,7 +11,7 @@ addition-spec =
     tie.close
     (tie.spec
     (λ c κs. search needs)
-    (λ c. there _ _ (sym (c .before .has .ensures) ∙ c .if1 .taken))
     (λ c κs. search needs)
-    (λ c. no-room _ _ (sym (c .before .before .before .has .ensures) ∙ c .before .before .if1 .left) (sym (c .before .has-room .ensures) ∙ not-true _ (c .if2 .taken)))
-    (λ c. new _ _ (sym (c .before .before .before .has .ensures) ∙ c .before .before .if1 .left) (sym (c .before .has-room .ensures) ∙ not-false _ (c .if2 .left))))
+    (λ c. there _ _ (sym (c .before .before .has .ensures) ∙ c .if1 .taken))
+    (λ c. no-room _ _ (sym (c .before .before .before .has .ensures) ∙ c .before .if1 .left) (sym (c .before .before .has-room .ensures) ∙ not-true _ (c .if2 .taken)))
+    (λ c. new _ _ (sym (c .before .before .before .has .ensures) ∙ c .before .if1 .left) (sym (c .before .before .has-room .ensures) ∙ not-false _ (c .if2 .left))))

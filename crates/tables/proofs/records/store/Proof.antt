@@ -14,6 +14,11 @@ Inv-loop table₀ size «record» at₀ table at = Changing (put «record») siz
 abbrev μ-loop : tie.MeasureT-loop
 μ-loop table₀ size «record» at₀ table at = length table₀ - at
 
+loop-again : tie.Need-loop-again Inv-loop μ-loop
+loop-again c =
+    let l = c .before .before .before .before in
+    changing-miss (l .loop .inv) (omega arith) (omega arith) (put-miss _ _ _ (sym (c .before .free-at .ensures) ∙ c .if1 .left)) refl
+
 same-length : tie.Need-same-length Inv-loop μ-loop
 same-length c = c .before .before .write-at .kept .0 ∙ c .before .before .before .before .before .before .before .before .loop .inv .same
 
@@ -25,11 +30,6 @@ returns c =
     let start = l .before .before .before in
     c .before .before .write-at .ensures
     ∙ put-done (start .args .«record» .now) (start .pre .2) (l .loop .inv) (omega arith) (omega arith) (sym (i .before .free-at .ensures) ∙ i .if1 .taken)
-
-loop-again : tie.Need-loop-again Inv-loop μ-loop
-loop-again c =
-    let l = c .before .before .before .before in
-    changing-miss (l .loop .inv) (omega arith) (omega arith) (put-miss _ _ _ (sym (c .before .free-at .ensures) ∙ c .if1 .left)) refl
 
 returns-2 : tie.Need-returns-2 Inv-loop μ-loop
 unfolding written
