@@ -1,6 +1,6 @@
 -- `tables::free_matching` meets its contract. The records before `at` are done.
 use mathlib.Core.Path.{_∙_}
-use mathlib.Core.Logic.{⊎-elim}
+use mathlib.Core.Logic.{⊎-elim, ⊎-swap}
 use Prim.Native.Nat.{_-_}
 use native.Mathlib.Omega.{arith}
 use lib.ListN.{length, replicate, length-replicate}
@@ -22,9 +22,9 @@ loop-again c =
     let test = matches-at (a .from) (a .size) (l .loop .at) (a .want .now) (l .loop .table) (omega arith) (c .before .same-at .ensures) in
     let whole = length-record (a .size) (l .loop .at) (l .loop .table) (omega arith) in
     ⊎-elim
-    (λ w. changing-hit (replicate (a .size) 255) (length-replicate _ _) (l .loop .inv) (omega arith) (omega arith) (clear-hit _ (a .size) _ _ whole (test ∙ w .0 .taken)) (w .5 ∙ w .2 .ensures))
     (λ w. changing-miss (l .loop .inv) (omega arith) (omega arith) (clear-miss _ _ _ (test ∙ w .0 .left)) (w .1))
-    (c .if1 .came)
+    (λ w. changing-hit (replicate (a .size) 255) (length-replicate _ _) (l .loop .inv) (omega arith) (omega arith) (clear-hit _ (a .size) _ _ whole (test ∙ w .0 .taken)) (w .5 ∙ w .2 .ensures))
+    (⊎-swap (c .if1 .came))
 
 returns : tie.Need-returns Inv-loop μ-loop
 unfolding written
