@@ -32,7 +32,8 @@ fn new_group(groups: &[u8]) -> u16
 // Delete Group takes the group, its members and the binds to it.
 fn free_group(binds: &mut [u8], groups: &mut [u8], members: &mut [u8], group: GroupAddress)
     requires { ⌜ (length (now binds) % 8 ≡ 0) × (length (now groups) % 16 ≡ 0) × (length (now members) % 5 ≡ 0) × (group .0 < 32768) ⌝ }
-    ensures { λ _. ⌜ Freed (group .0) (now (binds .entry)) (now (groups .entry)) (now (members .entry)) (now (binds .exit)) (now (groups .exit)) (now (members .exit)) ⌝ }
+    ensures { λ _. ⌜ Freed (group .0) (now (binds .entry)) (now (groups .entry)) (now (members .entry))
+        (now (binds .exit)) (now (groups .exit)) (now (members .exit)) ⌝ }
 {
     let flagged = tables::address_octets(octets::flagged(1, group.0));
     let address = tables::address_octets(group.0);
@@ -114,7 +115,8 @@ pub fn add_to_group(devices: &[u8], groups: &[u8], members: &mut [u8], payload: 
 
 // Create Group whole: the smallest address not in use, the record, and the reply.
 pub fn create(groups: &mut [u8], payload: &[u8], out: &mut [u8]) -> usize
-    requires { ⌜ (length (now payload) ≡ 1 + octet 0 (now payload)) × (length (now groups) % 16 ≡ 0) × (length (now groups) ≤ 256) × (3 ≤ length (now out)) ⌝ }
+    requires { ⌜ (length (now payload) ≡ 1 + octet 0 (now payload)) × (length (now groups) % 16 ≡ 0)
+        × (length (now groups) ≤ 256) × (3 ≤ length (now out)) ⌝ }
     ensures { λ r. ⌜ made r (now (groups .exit)) (now (out .exit)) ≡ making (now (groups .entry)) (now (payload .entry)) (now (out .entry)) ⌝ }
 {
     let group = GroupAddress(new_group(groups));

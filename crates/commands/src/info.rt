@@ -47,7 +47,8 @@ pub fn get_group_info(groups: &[u8], members: &[u8], payload: &[u8], out: &mut [
     requires { ⌜ (all groupFits (used (records 16 (now groups))) ≡ true)
         × (length (now members) ≤ 640) × (length (now payload) ≡ 2) × (485 ≤ length (now out)) ⌝ }
     ensures { λ r. ⌜ (r ≡ length (infoPayload (groupNamed (now (payload .entry))) (records 16 (now (groups .entry))) (records 5 (now (members .entry)))))
-        × (now (out .exit) ≡ over (infoPayload (groupNamed (now (payload .entry))) (records 16 (now (groups .entry))) (records 5 (now (members .entry)))) (now (out .entry))) ⌝ }
+        × (now (out .exit) ≡ over (infoPayload (groupNamed (now (payload .entry)))
+        (records 16 (now (groups .entry))) (records 5 (now (members .entry)))) (now (out .entry))) ⌝ }
 {
     let group = decode::group_named(payload);
     let found = tables::find(groups, 16, 0, &tables::address_octets(group.0));

@@ -28,7 +28,8 @@ fn act(
     requires { ⌜ (sound (lent (now devices) (now binds) (now groups) (now members)) ≡ true)
         × (payloadFits command (now payload) ≡ true) × Served command × (485 ≤ length (now out)) ⌝ }
     ensures { λ r. ⌜ performed r (lent (now (devices .entry)) (now (binds .exit)) (now (groups .exit)) (now (members .exit))) (now (out .exit))
-        ≡ acting (lent (now (devices .entry)) (now (binds .entry)) (now (groups .entry)) (now (members .entry))) command (now (payload .entry)) (now (out .entry)) ⌝ }
+        ≡ acting (lent (now (devices .entry)) (now (binds .entry)) (now (groups .entry)) (now (members .entry)))
+        command (now (payload .entry)) (now (out .entry)) ⌝ }
 {
     match command {
         Command::AddBind => {
@@ -70,7 +71,8 @@ pub fn perform(
 ) -> usize
     requires { ⌜ (sound (lent (now devices) (now binds) (now groups) (now members)) ≡ true) × Served command × (485 ≤ length (now out)) ⌝ }
     ensures { λ r. ⌜ performed r (lent (now (devices .entry)) (now (binds .exit)) (now (groups .exit)) (now (members .exit))) (now (out .exit))
-        ≡ performance (lent (now (devices .entry)) (now (binds .entry)) (now (groups .entry)) (now (members .entry))) (source .0) command (now (payload .entry)) (now (out .entry)) ⌝ }
+        ≡ performance (lent (now (devices .entry)) (now (binds .entry)) (now (groups .entry)) (now (members .entry)))
+        (source .0) command (now (payload .entry)) (now (out .entry)) ⌝ }
 {
     if !checks::rights_fit(devices, source, command) {
         return checks::write_code(out, Code::NOT_AUTHORIZED);

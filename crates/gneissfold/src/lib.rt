@@ -23,8 +23,10 @@ pub extern "C" fn gneissfold_message(
     list: &mut [u8],
     count: &mut usize,
 ) -> u8
-    ensures { λ r. ⌜ messageTold r (now (count .exit)) (lent (now (devices .exit)) (now (binds .exit)) (now (groups .exit)) (now (members .exit))) (now (reply .exit)) (now (list .exit))
-        ≡ ofMessage (message (lent (now (devices .entry)) (now (binds .entry)) (now (groups .entry)) (now (members .entry))) (now (msg .entry)) (now (reply .entry)) (now (list .entry))) ⌝ }
+    ensures { λ r. ⌜ messageTold r (now (count .exit))
+        (lent (now (devices .exit)) (now (binds .exit)) (now (groups .exit)) (now (members .exit))) (now (reply .exit)) (now (list .exit))
+        ≡ ofMessage (message (lent (now (devices .entry)) (now (binds .entry)) (now (groups .entry)) (now (members .entry)))
+        (now (msg .entry)) (now (reply .entry)) (now (list .entry))) ⌝ }
 {
     let outcome = hub::message(devices, binds, groups, members, msg, reply, list);
     *count = outcome.value();

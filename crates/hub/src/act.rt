@@ -24,7 +24,8 @@ fn serve(
 ) -> Outcome
     requires { ⌜ Servable (lent (now devices) (now binds) (now groups) (now members)) command (now msg) (now reply) ⌝ }
     ensures { λ r. ⌜ answer r (lent (now (devices .entry)) (now (binds .exit)) (now (groups .exit)) (now (members .exit))) (now (reply .exit)) []
-        ≡ served (lent (now (devices .entry)) (now (binds .entry)) (now (groups .entry)) (now (members .entry))) command (now (msg .entry)) (now (reply .entry)) [] ⌝ }
+        ≡ served (lent (now (devices .entry)) (now (binds .entry)) (now (groups .entry)) (now (members .entry)))
+        command (now (msg .entry)) (now (reply .entry)) [] ⌝ }
 {
     let request = messages::fields(msg);
     let n = commands::perform(
@@ -64,8 +65,10 @@ pub fn message(
     reply: &mut [u8],
     list: &mut [u8],
 ) -> Outcome
-    ensures { λ r. ⌜ answer r (lent (now (devices .exit)) (now (binds .exit)) (now (groups .exit)) (now (members .exit))) (now (reply .exit)) (now (list .exit))
-        ≡ message (lent (now (devices .entry)) (now (binds .entry)) (now (groups .entry)) (now (members .entry))) (now (msg .entry)) (now (reply .entry)) (now (list .entry)) ⌝ }
+    ensures { λ r. ⌜ answer r (lent (now (devices .exit)) (now (binds .exit)) (now (groups .exit)) (now (members .exit)))
+        (now (reply .exit)) (now (list .exit))
+        ≡ message (lent (now (devices .entry)) (now (binds .entry)) (now (groups .entry)) (now (members .entry)))
+        (now (msg .entry)) (now (reply .entry)) (now (list .entry)) ⌝ }
 {
     let way = decide::way_of(devices, binds, groups, members, msg, reply, list);
     match way {

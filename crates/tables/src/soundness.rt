@@ -74,7 +74,8 @@ fn free_or_fits(kind: Kind, rec: &[u8], devices: &[u8], groups: &[u8]) -> bool
 
 // .. for every record of a table.
 fn all_fit(kind: Kind, table: &[u8], devices: &[u8], groups: &[u8]) -> bool
-    ensures { λ r. ⌜ r ≡ all (fits kind (records (size Devices) (now (devices .entry))) (records (size Groups) (now (groups .entry)))) (used (records (size kind) (now (table .entry)))) ⌝ }
+    ensures { λ r. ⌜ r ≡ all (fits kind (records (size Devices) (now (devices .entry))) (records (size Groups) (now (groups .entry))))
+        (used (records (size kind) (now (table .entry)))) ⌝ }
 {
     let size = size_of(kind);
     let mut at = 0;
@@ -117,7 +118,8 @@ fn distinct(table: &[u8], size: usize, n: usize) -> bool
 // One table, by its octets and by what exists. Binds and members play no part in what exists. A table of a wrong length is not looked through: it may
 // have any number of records.
 pub fn table_sound(kind: Kind, table: &[u8], devices: &[u8], groups: &[u8]) -> bool
-    ensures { λ r. ⌜ ((binds members : List ℕ) → r ≡ soundTable kind (tables (lent (now (devices .entry)) binds (now (groups .entry)) members)) (now (table .entry))) ⌝ }
+    ensures { λ r. ⌜ ((binds members : List ℕ)
+        → r ≡ soundTable kind (tables (lent (now (devices .entry)) binds (now (groups .entry)) members)) (now (table .entry))) ⌝ }
 {
     if !whole_records(kind, table) {
         return false;
