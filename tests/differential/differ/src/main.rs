@@ -39,8 +39,8 @@ const ENOUGH_CALLS: usize = 100_000;
 fn options() -> Result<Options, String> {
     let mut options = Options {
         seed: 1,
-        calls: 200_000,
-        runs: 2_000,
+        calls: 500_000,
+        runs: 5_000,
         length: 200,
         history: false,
         each: false,
