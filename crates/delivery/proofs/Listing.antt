@@ -4,11 +4,12 @@ use mathlib.Core.Bool.{true, false, false≢true}
 use mathlib.Core.List.{List, [], _∷_, _++_, flatMap, append-nil, append-assoc}
 use Prim.Native.Nat.{ℕ, zero, suc, _+_, _-_, _*_, _/_, _%_, _^_, _≤_, _<_}
 use native.Mathlib.Nat.{add-zero, add-assoc, sub-zero}
+use native.Mathlib.Numerals.{add-one}
 use native.Mathlib.Omega.{arith}
 use borrow.Author.Tests.{eqb-true}
 use lib.Dec.{eqb}
-use lib.ListN.{length, getD, take, drop, length-append, length-drop, take-append-drop}
-use lib.Seq.{getD-take, getD-drop, drop-drop, drop-length, drop-append-add, length-take-le, take-at, drop-at, sets, sets-eq}
+use lib.ListN.{length, getD, take, drop, set, length-append, length-drop, length-set, take-append-drop}
+use lib.Seq.{getD-take, getD-drop, drop-drop, drop-length, drop-append-add, length-take-le, take-at, drop-at, take-suc-set, append-snoc, sets, sets-eq}
 use Rattle.rules.specs.Lists.{has}
 use Rattle.rules.specs.Octets.{octet, word, over}
 use Rattle.rules.specs.Units.{unitNumber, unitAt, threeOctets, unitOctets}
@@ -93,22 +94,6 @@ octets-units (suc n) (a ∷ b ∷ c ∷ l) o h =
     let z : ((a * 256 + b) * 256 + c) % 256 ≡ c = omega (arith, o 0, o 1, o 2) in
     rw (m, x, y, z, octets-units n l (λ i. o (suc (suc (suc i)))) (omega arith))
 
--- octets behind them make no difference, so a copy of them has the same units
-units-append : (n : ℕ) (l z : List ℕ) → 3 * n ≤ length l → units n (l ++ z) ≡ units n l
-unfolding units unitAt unitNumber word
-units-append zero l z h = refl
-units-append (suc n) [] z h = absurd (omega arith)
-units-append (suc n) (a ∷ []) z h = absurd (omega arith)
-units-append (suc n) (a ∷ b ∷ []) z h = absurd (omega arith)
-units-append (suc n) (a ∷ b ∷ c ∷ l) z h = rw (units-append n l z (omega arith))
-
-pub units-copied : (n : ℕ) (l z : List ℕ) → 3 * n ≤ length l → units n (over (take (3 * n) l) z) ≡ units n l
-unfolding over
-units-copied n l z h =
-    let k : 3 * n ≤ length (take (3 * n) l) = rw (length-take-le (3 * n) l h) (omega arith) in
-    let e : units n (take (3 * n) l ++ drop (3 * n) l) ≡ units n l = ap (units n) (take-append-drop (3 * n) l) in
-    units-append n (take (3 * n) l) _ k ∙ sym (units-append n (take (3 * n) l) (drop (3 * n) l) k) ∙ e
-
 -- a unit in octets is below 2 ^ 24
 pub has-small : (n : ℕ) (l : List ℕ) (u : ℕ) → ((i : ℕ) → getD l i 0 < 256) → has u (units n l) ≡ true → u < 2 ^ 24
 unfolding units unitAt unitNumber word
@@ -139,6 +124,31 @@ unfolding unitsFrom units
 from-end i n l h =
     let m : n - i ≡ 0 = omega arith in
     rw m
+
+-- A copy of the units as numbers: the first i are written, and those from place i on are left
+
+pub record Copying (n : ℕ) (l to₀ to : List ℕ) (i : ℕ) : Type 0 where
+  pub within : i ≤ n
+  pub same : length to ≡ length to₀
+  pub rest : take i to ++ unitsFrom i n l ≡ units n l
+
+pub copying-start : (n : ℕ) (l to : List ℕ) → Copying n l to to 0
+copying-start n l to = record { within = omega arith; same = refl; rest = from-start n l }
+
+module _ {n : ℕ} {l to₀ to : List ℕ} {i : ℕ} (c : Copying n l to₀ to i) where
+  pub copying-more : i < n → n ≤ length to₀ → {u : ℕ} → u ≡ unitAt (3 * i) l → Copying n l to₀ (set to i u) (i + 1)
+  copying-more h k {u} e =
+      let b : i < length to = omega (arith, c .same) in
+      record {
+        within = omega arith;
+        same = length-set to i u ∙ c .same;
+        rest = rw (add-one i, take-suc-set to i u b, append-snoc, e, ← add-one i) (rw (from-at i n l h) at (c .rest));
+      }
+
+  pub copying-end : n ≤ i → take n to ≡ units n l
+  copying-end h =
+      let e : i ≡ n = omega arith in
+      sym (append-nil (take n to)) ∙ rw (from-end n n l (omega arith)) at (rw e at (c .rest))
 
 -- The state of a list: one more unit behind the others
 
