@@ -83,7 +83,11 @@ fn state(binds: usize, matching: usize, members: usize, room: (usize, usize)) ->
     }
     let mut bound = Vec::new();
     for n in 0..binds {
-        let from = if n < matching { SWITCH } else { (SWITCH.0, SWITCH.1 + 1) };
+        let from = if n < matching {
+            SWITCH
+        } else {
+            (SWITCH.0, SWITCH.1 + 1)
+        };
         bound.extend(bind(from, unit(n)));
     }
     let mut groups = Vec::new();
@@ -114,12 +118,22 @@ const FULL: (usize, usize) = (64, 128);
 
 fn to_binds(name: &str, state: State, recipients: usize) -> Case {
     let call = Call::Message(message(SWITCH, BIND_ADDRESS, INTERFACE, 1, &[]));
-    Case { name: name.into(), call, state, answer: (1, recipients) }
+    Case {
+        name: name.into(),
+        call,
+        state,
+        answer: (1, recipients),
+    }
 }
 
 fn to_group(name: &str, state: State, recipients: usize) -> Case {
     let call = Call::Message(message(SWITCH, (GROUP_TYPE | GROUP, 0), INTERFACE, 1, &[]));
-    Case { name: name.into(), call, state, answer: (1, recipients) }
+    Case {
+        name: name.into(),
+        call,
+        state,
+        answer: (1, recipients),
+    }
 }
 
 /// The cases of docs/FIGURES.md.
@@ -129,7 +143,10 @@ pub fn cases() -> Vec<Case> {
         Case {
             name: "refused: no room for the answer (17)".into(),
             call: Call::Message(message(SWITCH, BIND_ADDRESS, INTERFACE, 1, &[])),
-            state: State { reply: vec![0; 499], ..full() },
+            state: State {
+                reply: vec![0; 499],
+                ..full()
+            },
             answer: (17, 0),
         },
         Case {
@@ -146,21 +163,46 @@ pub fn cases() -> Vec<Case> {
         },
         Case {
             name: "Add Bind, one record free".into(),
-            call: Call::Message(message(SWITCH, CONCENTRATOR, BIND_MANAGEMENT, 1, &bind(SWITCH, unit(63)))),
+            call: Call::Message(message(
+                SWITCH,
+                CONCENTRATOR,
+                BIND_MANAGEMENT,
+                1,
+                &bind(SWITCH, unit(63)),
+            )),
             state: state(63, 63, 128, FULL),
             answer: (0, 16),
         },
-        to_binds("delivery, 1 matching bind of 64", state(64, 1, 128, FULL), 1),
-        to_binds("delivery, 16 matching binds of 64", state(64, 16, 128, FULL), 16),
+        to_binds(
+            "delivery, 1 matching bind of 64",
+            state(64, 1, 128, FULL),
+            1,
+        ),
+        to_binds(
+            "delivery, 16 matching binds of 64",
+            state(64, 16, 128, FULL),
+            16,
+        ),
         to_binds("delivery, 64 matching binds of 64", full(), 64),
         to_group("delivery, group of 128", full(), 128),
         Case {
             name: "Get Group Info, 128 members".into(),
-            call: Call::Message(message(SWITCH, CONCENTRATOR, GROUP_MANAGEMENT, 5, &GROUP.to_be_bytes())),
+            call: Call::Message(message(
+                SWITCH,
+                CONCENTRATOR,
+                GROUP_MANAGEMENT,
+                5,
+                &GROUP.to_be_bytes(),
+            )),
             state: full(),
             answer: (0, 15 + 1 + 1 + 7 + 2 + 3 * 128),
         },
-        Case { name: "release".into(), call: Call::Release(2), state: full(), answer: (0, 0) },
+        Case {
+            name: "release".into(),
+            call: Call::Release(2),
+            state: full(),
+            answer: (0, 0),
+        },
     ]
 }
 

@@ -1,9 +1,9 @@
 //! Measures the part and the other reading on the same calls.
 //!
-//! bench names|growth-names     the cases, one a line
-//! bench count CASE part|other  makes the case's call once inside `measured`, for callgrind's --toggle-collect
-//! bench time                   nanoseconds a call, for every case: part, other
-//! bench stack                  octets of stack that the part's deepest call takes
+//! bench names|growth-names  the cases, one a line
+//! bench count CASE part|other|nothing  lends the tables and makes the case's call, ten times; `nothing` makes no call, and is what to take off
+//! bench time   nanoseconds a call, for every case: part, other
+//! bench stack  octets of stack that the part's deepest call takes
 
 mod case;
 mod stack;
@@ -17,41 +17,60 @@ use std::time::Instant;
 enum Reading {
     Part,
     Other,
+    Nothing,
 }
 
+/// How often `bench count` makes a call.
+const COUNTED: usize = 10;
+
 fn part(state: &mut State, call: &Call) -> (u8, usize) {
-    let State { devices, binds, groups, members, reply, list } = state;
+    let State {
+        devices,
+        binds,
+        groups,
+        members,
+        reply,
+        list,
+    } = state;
     match call {
         Call::Message(octets) => {
-            let (outcome, count) = gneissfold::message(devices, binds, groups, members, octets, reply, list);
+            let (outcome, count) =
+                gneissfold::message(devices, binds, groups, members, octets, reply, list);
             (outcome.number(), count)
         }
-        Call::Release(address) => (gneissfold::release(devices, binds, groups, members, *address).number(), 0),
+        Call::Release(address) => (
+            gneissfold::release(devices, binds, groups, members, *address).number(),
+            0,
+        ),
     }
 }
 
 fn other(state: &mut State, call: &Call) -> (u8, usize) {
-    let State { devices, binds, groups, members, reply, list } = state;
+    let State {
+        devices,
+        binds,
+        groups,
+        members,
+        reply,
+        list,
+    } = state;
     let mut count = 0;
     let outcome = match call {
-        Call::Message(octets) => {
-            other_reading::message(devices, binds, groups, members, octets, reply, list, &mut count)
-        }
+        Call::Message(octets) => other_reading::message(
+            devices, binds, groups, members, octets, reply, list, &mut count,
+        ),
         Call::Release(address) => other_reading::release(devices, binds, groups, members, *address),
     };
     (outcome, count)
 }
 
-/// Callgrind counts from its first instruction to its return.
-#[no_mangle]
 #[inline(never)]
-extern "C" fn measured(reading: u8, state: &mut State, call: &Call, answer: &mut (u8, usize)) {
-    *answer = if reading == Reading::Part as u8 { part(state, call) } else { other(state, call) };
-}
-
 fn once(reading: Reading, state: &mut State, case: &Case) {
-    let mut answer = (255, 0);
-    measured(black_box(reading as u8), black_box(state), black_box(&case.call), &mut answer);
+    let answer = match black_box(reading) {
+        Reading::Part => part(black_box(state), black_box(&case.call)),
+        Reading::Other => other(black_box(state), black_box(&case.call)),
+        Reading::Nothing => black_box(case.answer),
+    };
     assert_eq!(answer, case.answer, "{}", case.name);
 }
 
@@ -93,12 +112,27 @@ fn main() -> ExitCode {
     let words: Vec<String> = std::env::args().skip(1).collect();
     let words: Vec<&str> = words.iter().map(String::as_str).collect();
     match words[..] {
-        ["names"] => case::cases().iter().for_each(|case| println!("{}", case.name)),
-        ["growth-names"] => case::growth().iter().for_each(|case| println!("{}", case.name)),
-        ["count", name, reading @ ("part" | "other")] => {
-            let case = all().into_iter().find(|case| case.name == name).expect("a case's name");
-            let reading = if reading == "part" { Reading::Part } else { Reading::Other };
-            once(reading, &mut case.state.clone(), &case);
+        ["names"] => case::cases()
+            .iter()
+            .for_each(|case| println!("{}", case.name)),
+        ["growth-names"] => case::growth()
+            .iter()
+            .for_each(|case| println!("{}", case.name)),
+        ["count", name, reading @ ("part" | "other" | "nothing")] => {
+            let case = all()
+                .into_iter()
+                .find(|case| case.name == name)
+                .expect("a case's name");
+            let reading = match reading {
+                "part" => Reading::Part,
+                "other" => Reading::Other,
+                _ => Reading::Nothing,
+            };
+            let mut state = case.state.clone();
+            for _ in 0..COUNTED {
+                lend(black_box(&mut state), black_box(&case.state));
+                once(reading, &mut state, &case);
+            }
         }
         ["time"] => {
             for case in all() {
@@ -108,11 +142,17 @@ fn main() -> ExitCode {
             }
         }
         ["stack"] => {
-            let deepest = all().into_iter().map(|case| (stack::used_by(&case), case.name)).max().expect("a case");
-            println!("{}\t{}", deepest.1, deepest.0);
+            let cases = case::cases();
+            // Of the cases that go equally deep, the first.
+            let deepest = cases
+                .iter()
+                .rev()
+                .max_by_key(|case| stack::used_by(case))
+                .expect("a case");
+            println!("{}\t{}", deepest.name, stack::used_by(deepest));
         }
         _ => {
-            eprintln!("usage: bench names|growth-names|count CASE part|other|time|stack");
+            eprintln!("usage: bench names|growth-names|count CASE part|other|nothing|time|stack");
             return ExitCode::from(2);
         }
     }

@@ -54,12 +54,20 @@ fn painted(start: extern "C" fn(*mut c_void) -> *mut c_void, job: &mut Job) -> u
             || pthread_join(thread, ptr::null_mut()) != 0
     };
     assert!(!failed, "no thread on a stack of its own");
-    SIZE - stack[0].0.iter().take_while(|&&octet| octet == PAINT).count()
+    SIZE - stack[0]
+        .0
+        .iter()
+        .take_while(|&&octet| octet == PAINT)
+        .count()
 }
 
 /// Octets of stack that the case's call takes, less what a thread takes that does nothing.
 pub fn used_by(case: &Case) -> usize {
-    let mut job = Job { state: case.state.clone(), call: &case.call, answer: (255, 0) };
+    let mut job = Job {
+        state: case.state.clone(),
+        call: &case.call,
+        answer: (255, 0),
+    };
     let idle = painted(idle, &mut job);
     let used = painted(call, &mut job) - idle;
     assert_eq!(job.answer, case.answer, "{}", case.name);

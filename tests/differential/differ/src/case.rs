@@ -15,11 +15,29 @@ pub struct World {
 
 #[derive(Clone, PartialEq)]
 pub enum Call {
-    Message { msg: Vec<u8>, reply: Vec<u8>, list: Vec<u8> },
-    Admit { address: u16, rights: u8, highest: u8 },
-    Release { address: u16 },
-    Copy { msg: Vec<u8>, room: Vec<u8>, device: u16, unit: u8 },
-    Read { msg: Vec<u8>, fields: [u16; 12] },
+    Message {
+        msg: Vec<u8>,
+        reply: Vec<u8>,
+        list: Vec<u8>,
+    },
+    Admit {
+        address: u16,
+        rights: u8,
+        highest: u8,
+    },
+    Release {
+        address: u16,
+    },
+    Copy {
+        msg: Vec<u8>,
+        room: Vec<u8>,
+        device: u16,
+        unit: u8,
+    },
+    Read {
+        msg: Vec<u8>,
+        fields: [u16; 12],
+    },
 }
 
 #[derive(Clone)]
@@ -57,7 +75,10 @@ impl Lent {
     fn of(contents: &[u8]) -> Lent {
         let mut octets = vec![GUARD_OCTET; contents.len() + 2 * GUARD];
         octets[GUARD..GUARD + contents.len()].copy_from_slice(contents);
-        Lent { octets, length: contents.len() }
+        Lent {
+            octets,
+            length: contents.len(),
+        }
     }
 
     fn slice(&mut self) -> &mut [u8] {
@@ -88,7 +109,8 @@ impl Case {
         let mut outside = false;
         let (outcome, call) = match &self.call {
             Call::Message { msg, reply, list } => {
-                let (mut msg, mut reply, mut list) = (Lent::of(msg), Lent::of(reply), Lent::of(list));
+                let (mut msg, mut reply, mut list) =
+                    (Lent::of(msg), Lent::of(reply), Lent::of(list));
                 let outcome = ffi::message(
                     devices.slice(),
                     binds.slice(),
@@ -104,7 +126,11 @@ impl Case {
                 let list = list.back(&mut outside);
                 (outcome, Call::Message { msg, reply, list })
             }
-            &Call::Admit { address, rights, highest } => {
+            &Call::Admit {
+                address,
+                rights,
+                highest,
+            } => {
                 count = 0;
                 let outcome = ffi::admit(
                     devices.slice(),
@@ -128,12 +154,25 @@ impl Case {
                 );
                 (outcome, self.call.clone())
             }
-            &Call::Copy { ref msg, ref room, device, unit } => {
+            &Call::Copy {
+                ref msg,
+                ref room,
+                device,
+                unit,
+            } => {
                 let (mut msg, mut room) = (Lent::of(msg), Lent::of(room));
                 let outcome = ffi::copy(msg.slice(), room.slice(), device, unit, &mut count);
                 let msg = msg.back(&mut outside);
                 let room = room.back(&mut outside);
-                (outcome, Call::Copy { msg, room, device, unit })
+                (
+                    outcome,
+                    Call::Copy {
+                        msg,
+                        room,
+                        device,
+                        unit,
+                    },
+                )
             }
             Call::Read { msg, fields } => {
                 count = 0;
@@ -155,7 +194,13 @@ impl Case {
             groups: groups.back(&mut outside),
             members: members.back(&mut outside),
         };
-        Answer { outcome, count, world, call, outside }
+        Answer {
+            outcome,
+            count,
+            world,
+            call,
+            outside,
+        }
     }
 
     /// The call as the other reading answers it.
@@ -163,12 +208,21 @@ impl Case {
         let mut world = self.world.clone();
         let mut call = self.call.clone();
         let mut count = STALE;
-        let World { devices, binds, groups, members } = &mut world;
+        let World {
+            devices,
+            binds,
+            groups,
+            members,
+        } = &mut world;
         let outcome = match &mut call {
             Call::Message { msg, reply, list } => other_reading::message(
                 devices, binds, groups, members, msg, reply, list, &mut count,
             ),
-            &mut Call::Admit { address, rights, highest } => {
+            &mut Call::Admit {
+                address,
+                rights,
+                highest,
+            } => {
                 count = 0;
                 other_reading::admit(devices, binds, groups, members, address, rights, highest)
             }
@@ -176,15 +230,24 @@ impl Case {
                 count = 0;
                 other_reading::release(devices, binds, groups, members, address)
             }
-            Call::Copy { msg, room, device, unit } => {
-                other_reading::copy(msg, room, *device, *unit, &mut count)
-            }
+            Call::Copy {
+                msg,
+                room,
+                device,
+                unit,
+            } => other_reading::copy(msg, room, *device, *unit, &mut count),
             Call::Read { msg, fields } => {
                 count = 0;
                 other_reading::read(msg, fields)
             }
         };
-        Answer { outcome, count, world, call, outside: false }
+        Answer {
+            outcome,
+            count,
+            world,
+            call,
+            outside: false,
+        }
     }
 
     /// The part's answer, or all of the case if the two answers differ.
@@ -222,11 +285,23 @@ impl fmt::Display for Call {
                 writeln!(to, "  reply   {}", hexadecimal(reply))?;
                 writeln!(to, "  list    {}", hexadecimal(list))
             }
-            Call::Admit { address, rights, highest } => {
-                writeln!(to, "  admit   {address:04X} rights {rights:02X} highest {highest:02X}")
+            Call::Admit {
+                address,
+                rights,
+                highest,
+            } => {
+                writeln!(
+                    to,
+                    "  admit   {address:04X} rights {rights:02X} highest {highest:02X}"
+                )
             }
             Call::Release { address } => writeln!(to, "  release {address:04X}"),
-            Call::Copy { msg, room, device, unit } => {
+            Call::Copy {
+                msg,
+                room,
+                device,
+                unit,
+            } => {
                 writeln!(to, "  copy    {}", hexadecimal(msg))?;
                 writeln!(to, "  to      {device:04X}:{unit:02X}")?;
                 writeln!(to, "  room    {}", hexadecimal(room))

@@ -13,7 +13,8 @@ struct Part {
 
 impl Part {
     fn start() -> Part {
-        let command = std::env::var("GNEISSFOLD_PART").expect("GNEISSFOLD_PART is the command that starts the part");
+        let command = std::env::var("GNEISSFOLD_PART")
+            .expect("GNEISSFOLD_PART is the command that starts the part");
         let mut words = command.split_whitespace();
         let mut process = Command::new(words.next().expect("GNEISSFOLD_PART is empty"))
             .args(words)
@@ -23,7 +24,11 @@ impl Part {
             .expect("the part did not start");
         let requests = process.stdin.take().expect("a pipe");
         let answers = process.stdout.take().expect("a pipe");
-        Part { _process: process, requests, answers }
+        Part {
+            _process: process,
+            requests,
+            answers,
+        }
     }
 }
 
@@ -65,9 +70,15 @@ fn call(which: u8, number: u16, first: u8, second: u8, lent: &mut [Lent]) -> (u8
     let mut answer = vec![0; 9 + lent.iter().map(|s| s.octets().len()).sum::<usize>()];
     PART.with(|part| {
         let mut part = part.borrow_mut();
-        part.requests.write_all(&request).expect("the part takes no request: it crashed");
-        part.requests.flush().expect("the part takes no request: it crashed");
-        part.answers.read_exact(&mut answer).expect("the part gives no answer: it crashed");
+        part.requests
+            .write_all(&request)
+            .expect("the part takes no request: it crashed");
+        part.requests
+            .flush()
+            .expect("the part takes no request: it crashed");
+        part.answers
+            .read_exact(&mut answer)
+            .expect("the part gives no answer: it crashed");
     });
     let mut count = [0; 8];
     count.copy_from_slice(&answer[1..9]);
@@ -114,7 +125,12 @@ pub fn admit(
     rights: u8,
     highest: u8,
 ) -> u8 {
-    let lent = &mut [Lent::Written(devices), Lent::Kept(binds), Lent::Kept(groups), Lent::Kept(members)];
+    let lent = &mut [
+        Lent::Written(devices),
+        Lent::Kept(binds),
+        Lent::Kept(groups),
+        Lent::Kept(members),
+    ];
     call(2, address, rights, highest, lent).0
 }
 
@@ -125,19 +141,36 @@ pub fn release(
     members: &mut [u8],
     address: u16,
 ) -> u8 {
-    let lent = &mut [Lent::Written(devices), Lent::Written(binds), Lent::Kept(groups), Lent::Written(members)];
+    let lent = &mut [
+        Lent::Written(devices),
+        Lent::Written(binds),
+        Lent::Kept(groups),
+        Lent::Written(members),
+    ];
     call(3, address, 0, 0, lent).0
 }
 
 pub fn copy(msg: &[u8], room: &mut [u8], device: u16, unit: u8, length: &mut usize) -> u8 {
-    let (outcome, n) = call(4, device, unit, 0, &mut [Lent::Kept(msg), Lent::Written(room)]);
+    let (outcome, n) = call(
+        4,
+        device,
+        unit,
+        0,
+        &mut [Lent::Kept(msg), Lent::Written(room)],
+    );
     *length = n;
     outcome
 }
 
 pub fn read(msg: &[u8], fields: &mut [u16]) -> u8 {
     let mut octets: Vec<u8> = fields.iter().flat_map(|f| f.to_le_bytes()).collect();
-    let (outcome, _) = call(5, 0, 0, 0, &mut [Lent::Kept(msg), Lent::Written(&mut octets)]);
+    let (outcome, _) = call(
+        5,
+        0,
+        0,
+        0,
+        &mut [Lent::Kept(msg), Lent::Written(&mut octets)],
+    );
     for (field, two) in fields.iter_mut().zip(octets.chunks_exact(2)) {
         *field = u16::from_le_bytes([two[0], two[1]]);
     }

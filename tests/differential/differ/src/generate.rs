@@ -17,7 +17,17 @@ pub const UIDS: [u16; 5] = [0x0200, 0x0201, 0x0000, 0x7FFE, 0x00FF];
 
 /// UID and member of each command, in the order of document 000.
 pub const COMMANDS: [(u8, u8); 11] = [
-    (2, 1), (2, 2), (2, 3), (2, 4), (2, 5), (2, 6), (3, 1), (3, 2), (3, 3), (3, 4), (3, 5),
+    (2, 1),
+    (2, 2),
+    (2, 3),
+    (2, 4),
+    (2, 5),
+    (2, 6),
+    (3, 1),
+    (3, 2),
+    (3, 3),
+    (3, 4),
+    (3, 5),
 ];
 
 /// How often each command is tried. In a run additions must outweigh the
@@ -94,10 +104,17 @@ impl View {
         match rng.below(100) {
             0..=29 => (0, 0),
             30..=69 => {
-                let with_rights: Vec<_> =
-                    self.devices.iter().filter(|device| device[2] == 1).copied().collect();
+                let with_rights: Vec<_> = self
+                    .devices
+                    .iter()
+                    .filter(|device| device[2] == 1)
+                    .copied()
+                    .collect();
                 match rng.pick(&with_rights) {
-                    Some(device) => (word(&device, 0), rng.octet() % device[3].saturating_add(1).max(1)),
+                    Some(device) => (
+                        word(&device, 0),
+                        rng.octet() % device[3].saturating_add(1).max(1),
+                    ),
                     None => (0, 0),
                 }
             }
@@ -138,7 +155,13 @@ impl View {
         let uid = match rng.below(50) {
             0 => 0x7FFF,
             1 => rng.word() & 0x7FFF,
-            _ => rng.weighted(&[(60, UIDS[0]), (20, UIDS[1]), (7, UIDS[2]), (7, UIDS[3]), (6, UIDS[4])]),
+            _ => rng.weighted(&[
+                (60, UIDS[0]),
+                (20, UIDS[1]),
+                (7, UIDS[2]),
+                (7, UIDS[3]),
+                (6, UIDS[4]),
+            ]),
         };
         let interface = uid | if rng.percent(70) { 0x8000 } else { 0 };
         let (destination, unit) = if rng.percent(40) {
@@ -174,7 +197,11 @@ impl View {
     /// The payload of a command, mostly of the right length, the ignored top
     /// bits set now and then.
     fn payload(&self, rng: &mut Rng, command: (u8, u8)) -> Vec<u8> {
-        let stored = if rng.percent(85) { rng.pick(&self.binds) } else { None };
+        let stored = if rng.percent(85) {
+            rng.pick(&self.binds)
+        } else {
+            None
+        };
         let bind = stored.unwrap_or_else(|| self.bind(rng));
         let mut payload = match command {
             (2, 1) => self.bind(rng).to_vec(),
@@ -250,7 +277,11 @@ impl View {
             _ => REQUESTS[rng.below(REQUESTS.len())],
         };
         let interface = rng.word() & 0x8000 | UIDS[rng.below(UIDS.len())];
-        let length = if rng.percent(95) { rng.below(9) } else { rng.below(486) };
+        let length = if rng.percent(95) {
+            rng.below(9)
+        } else {
+            rng.below(486)
+        };
         let payload = rng.octets(length);
         let msg = match rng.below(10) {
             0..=4 => {
@@ -279,7 +310,11 @@ impl View {
             }
             _ => {
                 let (device, unit) = self.perhaps_unit(rng);
-                let sender = if rng.percent(5) { (device, unit) } else { self.sender(rng) };
+                let sender = if rng.percent(5) {
+                    (device, unit)
+                } else {
+                    self.sender(rng)
+                };
                 let member = rng.octet();
                 header(rng, sender, device, unit, kind, interface, member)
             }
@@ -290,7 +325,15 @@ impl View {
 
 /// Name length and name; over 13 octets, or wrongly counted, now and then.
 fn name(rng: &mut Rng) -> Vec<u8> {
-    let length = rng.weighted(&[(60, 3), (10, 0), (10, 13), (6, 14), (2, 33), (2, 255), (10, 7)]);
+    let length = rng.weighted(&[
+        (60, 3),
+        (10, 0),
+        (10, 13),
+        (6, 14),
+        (2, 33),
+        (2, 255),
+        (10, 7),
+    ]);
     let mut payload = vec![length as u8];
     payload.extend(rng.octets(length));
     match rng.below(25) {
@@ -323,9 +366,29 @@ fn header(
     let reserved = if rng.percent(20) { 0x8000 } else { 0 };
     let [s1, s2] = (source | reserved).to_be_bytes();
     let [d1, d2] = destination.to_be_bytes();
-    let [t1, t2] = if rng.percent(30) { rng.word().to_be_bytes() } else { [0, 0] };
+    let [t1, t2] = if rng.percent(30) {
+        rng.word().to_be_bytes()
+    } else {
+        [0, 0]
+    };
     let [i1, i2] = interface.to_be_bytes();
-    vec![s1, s2, source_unit, d1, d2, unit, t1, t2, rng.octet(), kind, i1, i2, member, 0, 0]
+    vec![
+        s1,
+        s2,
+        source_unit,
+        d1,
+        d2,
+        unit,
+        t1,
+        t2,
+        rng.octet(),
+        kind,
+        i1,
+        i2,
+        member,
+        0,
+        0,
+    ]
 }
 
 fn with_payload(rng: &mut Rng, mut msg: Vec<u8>, payload: &[u8]) -> Vec<u8> {
@@ -358,7 +421,8 @@ pub fn damage(rng: &mut Rng, msg: &mut Vec<u8>) {
             msg.extend(rng.octets(more));
         }
         3 | 4 if msg.len() >= 15 => {
-            let length = rng.weighted(&[(3, 500), (3, 501), (1, 499), (1, 502), (1, 526), (1, 527)]);
+            let length =
+                rng.weighted(&[(3, 500), (3, 501), (1, 499), (1, 502), (1, 526), (1, 527)]);
             let more = rng.octets(length);
             msg.extend(more);
             msg.truncate(length);
@@ -370,7 +434,9 @@ pub fn damage(rng: &mut Rng, msg: &mut Vec<u8>) {
         }
         6 if msg.len() >= 15 => msg[14] = msg[14].wrapping_add(1 + rng.octet() % 2 * 254),
         7 if msg.len() >= 15 => msg[13] ^= 1,
-        8 if msg.len() >= 15 => msg[9] = rng.weighted(&[(2, 0x00), (2, 0x11), (1, 0x10), (1, 0xFF)]),
+        8 if msg.len() >= 15 => {
+            msg[9] = rng.weighted(&[(2, 0x00), (2, 0x11), (1, 0x10), (1, 0xFF)])
+        }
         9 if msg.len() >= 15 => msg[9] = rng.octet(),
         10 if msg.len() >= 15 => msg[3 + rng.below(3)] = rng.octet(),
         _ if !msg.is_empty() => {
@@ -413,7 +479,11 @@ fn construct<const SIZE: usize>(
 ) {
     let level = fill(rng);
     let records = table.len() / SIZE;
-    let keep = if level == 99 { rng.below(records) } else { records };
+    let keep = if level == 99 {
+        rng.below(records)
+    } else {
+        records
+    };
     let mut taken: Vec<[u8; SIZE]> = Vec::new();
     for at in 0..records {
         if at == keep || level < 99 && !rng.percent(level) {
@@ -442,7 +512,9 @@ pub fn crowded_world(rng: &mut Rng) -> World {
         world.groups.extend([0, address, 13]);
         world.groups.extend(rng.octets(13));
     }
-    let mut units: Vec<_> = (0..640).map(|unit| [0, 1 + (unit / 10) as u8, (unit % 10) as u8]).collect();
+    let mut units: Vec<_> = (0..640)
+        .map(|unit| [0, 1 + (unit / 10) as u8, (unit % 10) as u8])
+        .collect();
     for at in (1..units.len()).rev() {
         units.swap(at, rng.below(at + 1));
     }
@@ -454,7 +526,11 @@ pub fn crowded_world(rng: &mut Rng) -> World {
     let through_group = rng.below(MOST[1]);
     for (at, [d1, d2, unit]) in units[MOST[3] + 1..][..MOST[1]].iter().enumerate() {
         world.binds.extend([s1, s2, source_unit, 0x82, 0x00]);
-        world.binds.extend(if at == through_group { [0x80, group, 0] } else { [*d1, *d2, *unit] });
+        world.binds.extend(if at == through_group {
+            [0x80, group, 0]
+        } else {
+            [*d1, *d2, *unit]
+        });
     }
     world
 }
@@ -468,14 +544,22 @@ pub fn constructed_world(rng: &mut Rng) -> World {
     // list and the reply become as long as they can.
     let crowded = rng.percent(20);
     construct(rng, &mut world.devices, 2, |rng| {
-        let address = if wide { 1 + rng.word() % 90 } else { some_address(rng) };
+        let address = if wide {
+            1 + rng.word() % 90
+        } else {
+            some_address(rng)
+        };
         let [a1, a2] = address.to_be_bytes();
         let highest = rng.weighted(&[(50, 2), (20, 0), (10, 1), (10, 254), (10, 9)]);
         Some([a1, a2, u8::from(rng.percent(70)), highest])
     });
     construct(rng, &mut world.groups, 2, |rng| {
         let mut record = [0; GROUP];
-        let address = if rng.percent(85) { 1 + rng.word() % 18 } else { some_address(rng) };
+        let address = if rng.percent(85) {
+            1 + rng.word() % 18
+        } else {
+            some_address(rng)
+        };
         record[..2].copy_from_slice(&address.to_be_bytes());
         let length = rng.weighted(&[(40, 1), (20, 0), (20, 13), (20, 6)]);
         record[2] = length as u8;
@@ -485,7 +569,11 @@ pub fn constructed_world(rng: &mut Rng) -> World {
     });
     let view = View::of(&world);
     construct(rng, &mut world.members, MEMBER, |rng| {
-        let group = if crowded { *view.groups.first()? } else { rng.pick(&view.groups)? };
+        let group = if crowded {
+            *view.groups.first()?
+        } else {
+            rng.pick(&view.groups)?
+        };
         let [g1, g2] = word(&group, 0).to_be_bytes();
         let (device, unit) = view.unit(rng);
         let [d1, d2] = device.to_be_bytes();
@@ -512,11 +600,16 @@ pub fn constructed_world(rng: &mut Rng) -> World {
 fn bind_holds(view: &View, bind: &[u8; BIND]) -> bool {
     let exists = |device: u16, unit: u8| {
         (device, unit) == (0, 0)
-            || view.devices.iter().any(|record| word(record, 0) == device && unit <= record[3])
+            || view
+                .devices
+                .iter()
+                .any(|record| word(record, 0) == device && unit <= record[3])
     };
     let destination = word(bind, 5);
     let there = if destination >> 15 == 1 {
-        view.groups.iter().any(|group| word(group, 0) == destination & 0x7FFF)
+        view.groups
+            .iter()
+            .any(|group| word(group, 0) == destination & 0x7FFF)
     } else {
         exists(destination, bind[7]) && (destination, bind[7]) != (word(bind, 0), bind[2])
     };

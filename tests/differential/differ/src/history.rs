@@ -7,9 +7,20 @@ use crate::generate::word;
 /// A call that was made and what came back of it.
 pub enum Entry {
     /// A message with its outcome and, for outcome 0, the reply's payload.
-    Message { msg: Vec<u8>, outcome: u8, payload: Vec<u8> },
-    Admit { address: u16, highest: u8, outcome: u8 },
-    Release { address: u16, outcome: u8 },
+    Message {
+        msg: Vec<u8>,
+        outcome: u8,
+        payload: Vec<u8>,
+    },
+    Admit {
+        address: u16,
+        highest: u8,
+        outcome: u8,
+    },
+    Release {
+        address: u16,
+        outcome: u8,
+    },
 }
 
 pub type Bind = [u8; 8];
@@ -22,13 +33,28 @@ impl Entry {
         let outcome = answer.outcome;
         match (call, &answer.call) {
             (Call::Message { msg, .. }, Call::Message { reply, .. }) => {
-                let end = if outcome == 0 { answer.count.clamp(15, reply.len()) } else { 15 };
+                let end = if outcome == 0 {
+                    answer.count.clamp(15, reply.len())
+                } else {
+                    15
+                };
                 let payload = reply.get(15..end).unwrap_or(&[]).to_vec();
-                Some(Entry::Message { msg: msg.clone(), outcome, payload })
+                Some(Entry::Message {
+                    msg: msg.clone(),
+                    outcome,
+                    payload,
+                })
             }
-            (&Call::Admit { address, highest, .. }, _) => {
-                Some(Entry::Admit { address, highest, outcome })
-            }
+            (
+                &Call::Admit {
+                    address, highest, ..
+                },
+                _,
+            ) => Some(Entry::Admit {
+                address,
+                highest,
+                outcome,
+            }),
             (&Call::Release { address }, _) => Some(Entry::Release { address, outcome }),
             _ => None,
         }
@@ -37,16 +63,21 @@ impl Entry {
     /// UID, member and payload of a command that was answered with 0x00.
     fn done(&self) -> Option<(u8, u8, &[u8])> {
         match self {
-            Entry::Message { msg, outcome: 0, payload } if payload.first() == Some(&0x00) => {
-                Some((msg[11], msg[12], &msg[15..]))
-            }
+            Entry::Message {
+                msg,
+                outcome: 0,
+                payload,
+            } if payload.first() == Some(&0x00) => Some((msg[11], msg[12], &msg[15..])),
             _ => None,
         }
     }
 
     fn released(&self) -> Option<u16> {
         match *self {
-            Entry::Release { address, outcome: 0 } => Some(address),
+            Entry::Release {
+                address,
+                outcome: 0,
+            } => Some(address),
             _ => None,
         }
     }
@@ -140,7 +171,10 @@ impl History {
         let mut standing = Vec::new();
         for (at, entry) in self.entries.iter().enumerate() {
             if let Some(thing) = added(entry) {
-                if !self.entries[at + 1..].iter().any(|later| withdrawn(later, &thing)) {
+                if !self.entries[at + 1..]
+                    .iter()
+                    .any(|later| withdrawn(later, &thing))
+                {
                     standing.push(thing);
                 }
             }
@@ -158,11 +192,15 @@ impl History {
     }
 
     pub fn members(&self) -> Vec<Member> {
-        self.standing(Entry::added_member, |later, member| later.withdraws_member(member))
+        self.standing(Entry::added_member, |later, member| {
+            later.withdraws_member(member)
+        })
     }
 
     pub fn groups(&self) -> Vec<(u16, &[u8])> {
-        self.standing(Entry::created, |later, group| later.deleted() == Some(group.0))
+        self.standing(Entry::created, |later, group| {
+            later.deleted() == Some(group.0)
+        })
     }
 
     /// Every group address ever given out, and one that was not.
@@ -178,7 +216,11 @@ impl History {
     /// Admitted devices with their highest unit.
     pub fn devices(&self) -> Vec<(u16, u8)> {
         let admitted = |entry: &Entry| match *entry {
-            Entry::Admit { address, highest, outcome: 0 } => Some((address, highest)),
+            Entry::Admit {
+                address,
+                highest,
+                outcome: 0,
+            } => Some((address, highest)),
             _ => None,
         };
         self.standing(admitted, |later, device| later.released() == Some(device.0))
@@ -187,13 +229,27 @@ impl History {
     /// The calls and answers, one a line.
     pub fn printed(&self) -> String {
         let line = |entry: &Entry| match entry {
-            Entry::Message { msg, outcome, payload } => {
-                format!("  message {} -> {outcome} {}\n", hexadecimal(msg), hexadecimal(payload))
+            Entry::Message {
+                msg,
+                outcome,
+                payload,
+            } => {
+                format!(
+                    "  message {} -> {outcome} {}\n",
+                    hexadecimal(msg),
+                    hexadecimal(payload)
+                )
             }
-            Entry::Admit { address, highest, outcome } => {
+            Entry::Admit {
+                address,
+                highest,
+                outcome,
+            } => {
                 format!("  admit {address:04X} highest {highest:02X} -> {outcome}\n")
             }
-            Entry::Release { address, outcome } => format!("  release {address:04X} -> {outcome}\n"),
+            Entry::Release { address, outcome } => {
+                format!("  release {address:04X} -> {outcome}\n")
+            }
         };
         self.entries.iter().map(line).collect()
     }
@@ -219,12 +275,18 @@ impl Standing<'_> {
 
     pub fn exists(&self, (device, unit): Unit) -> bool {
         (device, unit) == (0, 0)
-            || self.devices.iter().any(|&(address, highest)| address == device && unit <= highest)
+            || self
+                .devices
+                .iter()
+                .any(|&(address, highest)| address == device && unit <= highest)
     }
 
     /// A group's members, each once, by rising device and unit.
     fn members_of(&self, group: u16) -> Vec<Unit> {
-        let members = self.members.iter().filter(|member| word(*member, 0) == group);
+        let members = self
+            .members
+            .iter()
+            .filter(|member| word(*member, 0) == group);
         rising(members.map(|member| (word(member, 2), member[4])).collect())
     }
 

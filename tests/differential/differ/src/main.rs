@@ -48,7 +48,11 @@ fn options() -> Result<Options, String> {
     };
     let mut arguments = std::env::args().skip(1);
     while let Some(argument) = arguments.next() {
-        let mut value = || arguments.next().ok_or(format!("{argument} lacks its value"));
+        let mut value = || {
+            arguments
+                .next()
+                .ok_or(format!("{argument} lacks its value"))
+        };
         match argument.as_str() {
             "--seed" => options.seed = seed(&value()?)?,
             "--calls" => options.calls = number(&value()?)?,
@@ -69,7 +73,9 @@ fn number(text: &str) -> Result<usize, String> {
 
 fn seed(text: &str) -> Result<u64, String> {
     if text == "now" {
-        let now = SystemTime::now().duration_since(UNIX_EPOCH).map_err(|error| error.to_string())?;
+        let now = SystemTime::now()
+            .duration_since(UNIX_EPOCH)
+            .map_err(|error| error.to_string())?;
         return Ok(now.as_nanos() as u64);
     }
     text.parse().map_err(|_| format!("not a seed: {text}"))
@@ -80,7 +86,11 @@ fn compare(options: &Options, tally: &mut tally::Tally) -> Result<(), String> {
     single::try_calls(&mut rng, options.calls, tally)?;
     // Its own generator, so that a run is the same whatever came before it.
     let mut rng = Rng::new(!options.seed);
-    let mut runs = runs::Runs { rng: &mut rng, tally, compare: !options.history };
+    let mut runs = runs::Runs {
+        rng: &mut rng,
+        tally,
+        compare: !options.history,
+    };
     runs.try_runs(options.runs, options.length)
 }
 
@@ -101,7 +111,10 @@ fn main() -> ExitCode {
         tally.print();
     }
     if let Err(report) = result {
-        println!("DIFFERENCE at seed {} after {} calls, {seconds:.1} s", options.seed, tally.calls);
+        println!(
+            "DIFFERENCE at seed {} after {} calls, {seconds:.1} s",
+            options.seed, tally.calls
+        );
         println!("{report}");
         return ExitCode::from(1);
     }

@@ -22,7 +22,8 @@ pub struct Runs<'a> {
 impl Runs<'_> {
     pub fn try_runs(&mut self, runs: usize, length: usize) -> Result<(), String> {
         for at in 0..runs {
-            self.try_run(length).map_err(|report| format!("run {at}: {report}"))?;
+            self.try_run(length)
+                .map_err(|report| format!("run {at}: {report}"))?;
         }
         Ok(())
     }
@@ -39,7 +40,11 @@ impl Runs<'_> {
             world = answer.world;
             if at + 1 == length || self.rng.percent(1) {
                 self.check(&world, &history).map_err(|report| {
-                    format!("after {} calls: {report}\nHISTORY\n{}", at + 1, history.printed())
+                    format!(
+                        "after {} calls: {report}\nHISTORY\n{}",
+                        at + 1,
+                        history.printed()
+                    )
                 })?;
             }
         }
@@ -47,12 +52,21 @@ impl Runs<'_> {
     }
 
     fn made(&mut self, world: &World, call: Call) -> Result<Answer, String> {
-        let case = Case { world: world.clone(), call };
+        let case = Case {
+            world: world.clone(),
+            call,
+        };
         self.tally.before(&case);
-        let answer = if self.compare { case.compared()? } else { case.by_part() };
+        let answer = if self.compare {
+            case.compared()?
+        } else {
+            case.by_part()
+        };
         self.tally.after(&answer);
         if answer.outside {
-            return Err(format!("octets outside a lent slice were changed\nCASE\n{case}"));
+            return Err(format!(
+                "octets outside a lent slice were changed\nCASE\n{case}"
+            ));
         }
         Ok(answer)
     }
@@ -66,9 +80,15 @@ impl Runs<'_> {
             return admit(rng);
         }
         if rng.percent(1) {
-            return Call::Release { address: release_address(rng, world) };
+            return Call::Release {
+                address: release_address(rng, world),
+            };
         }
-        let mut msg = if rng.percent(90) { view.command(rng) } else { view.forward(rng) };
+        let mut msg = if rng.percent(90) {
+            view.command(rng)
+        } else {
+            view.forward(rng)
+        };
         if rng.percent(1) {
             generate::damage(rng, &mut msg);
         }
@@ -87,13 +107,21 @@ impl Runs<'_> {
         let ever = history.binds_ever();
         for _ in 0..ASKED.min(ever.len() + 1) {
             let (sender, interface) = match self.rng.pick(&ever) {
-                Some(bind) if self.rng.percent(95) => {
-                    ((generate::word(&bind, 0), bind[2]), generate::word(&bind, 3))
-                }
+                Some(bind) if self.rng.percent(95) => (
+                    (generate::word(&bind, 0), bind[2]),
+                    generate::word(&bind, 3),
+                ),
                 _ => ((0, 0), 0x8000 | UIDS[self.rng.below(UIDS.len())]),
             };
             let expected = standing.linked(sender, interface);
-            self.check_forward(world, &standing, sender, [0x7F, 0xFF, 0xFF], interface, &expected)?;
+            self.check_forward(
+                world,
+                &standing,
+                sender,
+                [0x7F, 0xFF, 0xFF],
+                interface,
+                &expected,
+            )?;
         }
         for group in history.groups_ever() {
             self.check_info(world, &standing, group)?;
@@ -101,7 +129,14 @@ impl Runs<'_> {
                 let sender = self.some_sender(&standing);
                 let expected = standing.in_group(sender, group);
                 let [high, low] = (group | 0x8000).to_be_bytes();
-                self.check_forward(world, &standing, sender, [high, low, 0xFF], 0x8200, &expected)?;
+                self.check_forward(
+                    world,
+                    &standing,
+                    sender,
+                    [high, low, 0xFF],
+                    0x8200,
+                    &expected,
+                )?;
             }
         }
         Ok(())
@@ -109,7 +144,10 @@ impl Runs<'_> {
 
     /// A member or any admitted unit, by the history.
     fn some_sender(&mut self, standing: &Standing) -> Unit {
-        match (self.rng.pick(&standing.members), self.rng.pick(&standing.devices)) {
+        match (
+            self.rng.pick(&standing.members),
+            self.rng.pick(&standing.devices),
+        ) {
             (Some(member), _) if self.rng.percent(60) => (generate::word(&member, 2), member[4]),
             (_, Some((device, highest))) => (device, highest),
             _ => (0, 0),
@@ -136,7 +174,11 @@ impl Runs<'_> {
             (true, true) => 2,
             (true, false) => 1,
         };
-        let expected = if outcome == 1 { octets(expected) } else { Vec::new() };
+        let expected = if outcome == 1 {
+            octets(expected)
+        } else {
+            Vec::new()
+        };
         let call = self.message(world, msg.clone());
         let answer = self.made(world, call)?;
         let there = match &answer.call {

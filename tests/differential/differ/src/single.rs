@@ -19,10 +19,19 @@ pub fn try_calls(rng: &mut Rng, calls: usize, tally: &mut Tally) -> Result<(), S
             };
         }
         let growing = rng.percent(60);
-        let world = if growing { grown.clone() } else { some_world(rng, &grown) };
-        let case = Case { call: some_call(rng, &world), world };
+        let world = if growing {
+            grown.clone()
+        } else {
+            some_world(rng, &grown)
+        };
+        let case = Case {
+            call: some_call(rng, &world),
+            world,
+        };
         tally.before(&case);
-        let answer = case.compared().map_err(|report| format!("call {at}: {report}"))?;
+        let answer = case
+            .compared()
+            .map_err(|report| format!("call {at}: {report}"))?;
         tally.after(&answer);
         if growing {
             grown = answer.world;
@@ -51,7 +60,9 @@ fn some_call(rng: &mut Rng, world: &World) -> Call {
     let view = View::of(world);
     match rng.below(100) {
         0..=7 => admit(rng),
-        8..=9 => Call::Release { address: release_address(rng, world) },
+        8..=9 => Call::Release {
+            address: release_address(rng, world),
+        },
         10..=14 => {
             let msg = some_message(rng, &view);
             copy(rng, msg)
@@ -59,7 +70,10 @@ fn some_call(rng: &mut Rng, world: &World) -> Call {
         15..=19 => {
             let words: Vec<u16> = (0..12).map(|_| rng.word()).collect();
             let fields = words.try_into().unwrap();
-            Call::Read { msg: some_message(rng, &view), fields }
+            Call::Read {
+                msg: some_message(rng, &view),
+                fields,
+            }
         }
         _ => {
             let msg = some_message(rng, &view);
@@ -106,7 +120,11 @@ fn message(rng: &mut Rng, world: &World, msg: Vec<u8>) -> Call {
         3..=10 => least + rng.below(100),
         _ => least,
     };
-    Call::Message { msg, reply: rng.octets(reply), list: rng.octets(list) }
+    Call::Message {
+        msg,
+        reply: rng.octets(reply),
+        list: rng.octets(list),
+    }
 }
 
 pub fn admit(rng: &mut Rng) -> Call {
@@ -121,7 +139,11 @@ pub fn admit(rng: &mut Rng) -> Call {
     };
     let rights = rng.weighted(&[(60, 1), (35, 0), (3, 2), (2, 255)]);
     let highest = rng.weighted(&[(40, 2), (20, 0), (20, 1), (10, 9), (5, 254), (5, 255)]);
-    Call::Admit { address, rights, highest }
+    Call::Admit {
+        address,
+        rights,
+        highest,
+    }
 }
 
 pub fn release_address(rng: &mut Rng, world: &World) -> u16 {
@@ -151,5 +173,10 @@ fn copy(rng: &mut Rng, msg: Vec<u8>) -> Call {
         _ => rng.word() & 0x7FFF,
     };
     let unit = rng.weighted(&[(10, 0xFF), (10, 0xFE), (10, 0), (70, 3)]);
-    Call::Copy { msg, room: rng.octets(room), device, unit }
+    Call::Copy {
+        msg,
+        room: rng.octets(room),
+        device,
+        unit,
+    }
 }

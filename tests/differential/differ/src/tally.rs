@@ -15,7 +15,10 @@ pub struct Tally {
 
 impl Tally {
     pub fn new(each: bool) -> Tally {
-        Tally { each, ..Tally::default() }
+        Tally {
+            each,
+            ..Tally::default()
+        }
     }
 
     pub fn before(&mut self, case: &Case) {
@@ -35,7 +38,10 @@ impl Tally {
         };
         *self.outcomes.entry((name, answer.outcome)).or_default() += 1;
         if let (Call::Message { msg, reply, .. }, 0) = (&answer.call, answer.outcome) {
-            *self.codes.entry(((msg[11], msg[12]), reply[15])).or_default() += 1;
+            *self
+                .codes
+                .entry(((msg[11], msg[12]), reply[15]))
+                .or_default() += 1;
         }
     }
 
@@ -59,7 +65,9 @@ impl Tally {
         ];
         let mut missing = Vec::new();
         for (name, numbers) in outcomes {
-            let never = numbers.iter().filter(|&&number| !self.outcomes.contains_key(&(name, number)));
+            let never = numbers
+                .iter()
+                .filter(|&&number| !self.outcomes.contains_key(&(name, number)));
             missing.extend(never.map(|number| format!("{name} outcome {number}")));
         }
         for command in COMMANDS {

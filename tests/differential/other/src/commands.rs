@@ -92,7 +92,8 @@ fn answer(
     tables: Tables,
     out: &mut [u8],
 ) -> usize {
-    let may = command == Command::GetGroupInfo || tables::rights(tables.devices, header.source) == 1;
+    let may =
+        command == Command::GetGroupInfo || tables::rights(tables.devices, header.source) == 1;
     if !may {
         return code(NOT_AUTHORIZED, out);
     }
@@ -155,7 +156,10 @@ fn present(table: &[u8], record: &[u8]) -> bool {
 
 /// Stores the record in the first free one ("Tables"), if there is one.
 fn store(table: &mut [u8], record: &[u8]) -> u8 {
-    match table.chunks_exact_mut(record.len()).find(|there| is_free(there)) {
+    match table
+        .chunks_exact_mut(record.len())
+        .find(|there| is_free(there))
+    {
         None => NOT_ENOUGH_RESOURCES,
         Some(free) => {
             free.copy_from_slice(record);

@@ -80,7 +80,12 @@ pub fn message(
         return outcome::RESPONSE_TO_MANY;
     }
     if header.to_concentrator() {
-        let tables = Tables { devices, binds, groups, members };
+        let tables = Tables {
+            devices,
+            binds,
+            groups,
+            members,
+        };
         return match commands::named_by(&header) {
             None => outcome::NO_COMMAND,
             Some(command) => {
@@ -137,7 +142,10 @@ pub fn admit(
         return outcome::ALREADY_ADMITTED;
     }
     // "An addition takes the first free record" ("Tables").
-    match devices.chunks_exact_mut(tables::DEVICE).find(|record| is_free(record)) {
+    match devices
+        .chunks_exact_mut(tables::DEVICE)
+        .find(|record| is_free(record))
+    {
         None => outcome::NO_FREE_RECORD,
         Some(record) => {
             put(record, 0, address);

@@ -26,7 +26,9 @@ pub fn links(input: &[u8]) -> String {
     let mut reply = [0; LONGEST];
     let mut list = [0; 3 * (MOST_BINDS + MOST_MEMBERS)];
     let mut count = 0;
-    let result = message(devices, binds, groups, members, msg, &mut reply, &mut list, &mut count);
+    let result = message(
+        devices, binds, groups, members, msg, &mut reply, &mut list, &mut count,
+    );
     match result {
         outcome::DONE => format!("outcome 0 count 0\n{}\n", hexadecimal(&reply[..count])),
         outcome::FORWARDED => {

@@ -160,7 +160,8 @@ pub fn bind_fields_hold(devices: &[u8], groups: &[u8], bind: &[u8]) -> bool {
         && if flag(destination) {
             group_exists(groups, number(destination))
         } else {
-            unit_exists(devices, destination, unit) && (destination, unit) != (word(bind, 0), bind[2])
+            unit_exists(devices, destination, unit)
+                && (destination, unit) != (word(bind, 0), bind[2])
         }
 }
 

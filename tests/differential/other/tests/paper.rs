@@ -36,8 +36,7 @@ impl World {
         world.devices[..12].copy_from_slice(&[0, 3, 1, 2, 0, 4, 0, 2, 0, 5, 0, 1]);
         world.groups[..16].fill(0);
         world.groups[..4].copy_from_slice(&[0, 1, 1, b'S']);
-        world.members[..15]
-            .copy_from_slice(&[0, 1, 0, 5, 1, 0, 1, 0, 4, 2, 0, 1, 0, 3, 1]);
+        world.members[..15].copy_from_slice(&[0, 1, 0, 5, 1, 0, 1, 0, 4, 2, 0, 1, 0, 3, 1]);
         world
     }
 
@@ -187,8 +186,14 @@ fn the_printed_example() {
     world.binds[..8].copy_from_slice(&P1);
     world.binds[8..16].copy_from_slice(&P2);
     let msg = [0, 3, 1, 0x7F, 0xFF, 0xFF, 0, 0, 7, 1, 0x82, 0, 1, 0, 0];
-    let input =
-        [&world.devices[..], &world.binds, &world.groups, &world.members, &msg].concat();
+    let input = [
+        &world.devices[..],
+        &world.binds,
+        &world.groups,
+        &world.members,
+        &msg,
+    ]
+    .concat();
     assert_eq!(links(&input), "outcome 1 count 2\n0004:02\n0005:01\n");
     assert_eq!(links(&input[..1663]), "short input\n");
     assert_eq!(links(&input[..1664]), "outcome 10 count 0\n");
@@ -199,11 +204,25 @@ fn delete_group_takes_members_and_binds() {
     let mut world = World::of_the_rows();
     assert_eq!(world.add_bind(&P2), [0]);
     // To D'0001, which shares only the number.
-    assert_eq!(admit(&mut world.devices, &world.binds, &world.groups, &world.members, 1, 0, 0), 0);
+    assert_eq!(
+        admit(
+            &mut world.devices,
+            &world.binds,
+            &world.groups,
+            &world.members,
+            1,
+            0,
+            0
+        ),
+        0
+    );
     assert_eq!(world.add_bind(&[0, 3, 1, 0x82, 0, 0, 1, 0]), [0]);
     assert_eq!(world.command((3, 0), GROUP, 2, &[0x80, 1]), [0]);
     assert!(world.members.iter().all(|&octet| octet == 0xFF));
-    assert_eq!(world.binds[..16], [[0xFF; 8], [0, 3, 1, 0x82, 0, 0, 1, 0]].concat());
+    assert_eq!(
+        world.binds[..16],
+        [[0xFF; 8], [0, 3, 1, 0x82, 0, 0, 1, 0]].concat()
+    );
     assert_eq!(world.command((3, 0), GROUP, 1, &[0]), [0, 0, 1]);
     assert_eq!(world.command((4, 0), GROUP, 5, &[0, 1]), [0, 0, 0, 0]);
 }
@@ -220,12 +239,23 @@ fn group_info_is_by_rising_device_and_unit() {
 fn free_records_never_match() {
     let mut world = World::of_the_rows();
     for (member, length) in [(2, 8), (3, 2), (4, 3), (5, 2), (6, 3)] {
-        assert_eq!(world.command((0, 0), BIND, member, &[0xFF; 8][..length]), [2]);
+        assert_eq!(
+            world.command((0, 0), BIND, member, &[0xFF; 8][..length]),
+            [2]
+        );
     }
     for (member, length) in [(2, 2), (3, 5), (4, 5), (5, 2)] {
-        assert_eq!(world.command((0, 0), GROUP, member, &[0xFF; 5][..length]), [2]);
+        assert_eq!(
+            world.command((0, 0), GROUP, member, &[0xFF; 5][..length]),
+            [2]
+        );
     }
-    let World { devices, binds, groups, members } = &mut world;
+    let World {
+        devices,
+        binds,
+        groups,
+        members,
+    } = &mut world;
     assert_eq!(release(devices, binds, groups, members, 0xFFFF), 23);
     assert_eq!(release(devices, binds, groups, members, 0), 23);
 }
@@ -235,7 +265,12 @@ fn release_takes_members_and_binds() {
     let mut world = World::of_the_rows();
     assert_eq!(world.add_bind(&P1), [0]);
     assert_eq!(world.add_bind(&P2), [0]);
-    let World { devices, binds, groups, members } = &mut world;
+    let World {
+        devices,
+        binds,
+        groups,
+        members,
+    } = &mut world;
     assert_eq!(release(devices, binds, groups, members, 4), 0);
     assert_eq!(binds[..16], [[0xFF; 8], P2].concat());
     assert_eq!(members[5..10], [0xFF; 5]);
@@ -257,10 +292,24 @@ fn the_order_of_outcomes() {
     let mut world = World::of_the_rows();
     world.binds.truncate(9);
     world.members.truncate(16);
-    let World { devices, binds, groups, members } = &mut world;
+    let World {
+        devices,
+        binds,
+        groups,
+        members,
+    } = &mut world;
     let mut call = |reply: usize, list: usize| {
         let (mut reply, mut list, mut count) = (vec![0; reply], vec![0; list], 1);
-        message(devices, binds, groups, members, &[], &mut reply, &mut list, &mut count)
+        message(
+            devices,
+            binds,
+            groups,
+            members,
+            &[],
+            &mut reply,
+            &mut list,
+            &mut count,
+        )
     };
     // One bind record and three member records, divided down.
     assert_eq!(call(500, 11), 17);
@@ -270,12 +319,16 @@ fn the_order_of_outcomes() {
 
 #[test]
 fn copying_and_reading() {
-    let msg = [0x80, 3, 1, 0x80, 1, 9, 8, 7, 6, 5, 0x82, 0, 1, 0xFE, 1, 0x44];
+    let msg = [
+        0x80, 3, 1, 0x80, 1, 9, 8, 7, 6, 5, 0x82, 0, 1, 0xFE, 1, 0x44,
+    ];
     let mut room = [0xEE; 18];
     let mut length = 9;
     assert_eq!(copy(&msg, &mut room, 0x7FFE, 0xFE, &mut length), 0);
     assert_eq!(length, 16);
-    let expected = [0x80, 3, 1, 0x7F, 0xFE, 0xFE, 8, 7, 6, 5, 0x82, 0, 1, 0xFE, 1, 0x44, 0xEE, 0xEE];
+    let expected = [
+        0x80, 3, 1, 0x7F, 0xFE, 0xFE, 8, 7, 6, 5, 0x82, 0, 1, 0xFE, 1, 0x44, 0xEE, 0xEE,
+    ];
     assert_eq!(room, expected);
     assert_eq!(copy(&msg, &mut room[..15], 4, 4, &mut length), 19);
     assert_eq!(copy(&msg, &mut room, 0x7FFF, 4, &mut length), 19);

@@ -20,10 +20,17 @@ fn every_vector() {
         let printed = links(&octets(input));
         let printed = printed.trim_end_matches('\n').replace('\n', "|");
         if printed != expected {
-            disagreeing.push(format!("line {}: expected {expected}, got {printed}", at + 1));
+            disagreeing.push(format!(
+                "line {}: expected {expected}, got {printed}",
+                at + 1
+            ));
         }
         tried += 1;
     }
-    assert!(disagreeing.is_empty(), "{} of {tried}: {disagreeing:#?}", disagreeing.len());
+    assert!(
+        disagreeing.is_empty(),
+        "{} of {tried}: {disagreeing:#?}",
+        disagreeing.len()
+    );
     assert!(tried > 0);
 }

@@ -41,7 +41,12 @@ impl Exchange {
     /// The bind that an Add Bind stored.
     fn stored(&mut self) -> Option<&mut [u8]> {
         let before = &self.before[BINDS];
-        let at = before.iter().zip(&self.after[BINDS]).position(|(a, b)| a != b)? / 8 * 8;
+        let at = before
+            .iter()
+            .zip(&self.after[BINDS])
+            .position(|(a, b)| a != b)?
+            / 8
+            * 8;
         Some(&mut self.after[BINDS][at..at + 8])
     }
 
@@ -203,7 +208,11 @@ fn request(from: &mut impl Read) -> io::Result<Option<(Vec<u8>, u8, Vec<Vec<u8>>
 }
 
 fn serve(spoil: Spoil, part: &[String]) -> io::Result<()> {
-    let mut part = Command::new(&part[0]).args(&part[1..]).stdin(Stdio::piped()).stdout(Stdio::piped()).spawn()?;
+    let mut part = Command::new(&part[0])
+        .args(&part[1..])
+        .stdin(Stdio::piped())
+        .stdout(Stdio::piped())
+        .spawn()?;
     let mut requests = part.stdin.take().expect("a pipe");
     let mut answers = part.stdout.take().expect("a pipe");
     let mut input = io::stdin().lock();
@@ -216,7 +225,13 @@ fn serve(spoil: Spoil, part: &[String]) -> io::Result<()> {
         let lengths: Vec<usize> = before.iter().map(Vec::len).collect();
         let after = slices(&mut answers, &lengths)?;
         let count = u64::from_le_bytes(told[1..].try_into().expect("eight octets"));
-        let mut exchange = Exchange { call, before, outcome: told[0], count, after };
+        let mut exchange = Exchange {
+            call,
+            before,
+            outcome: told[0],
+            count,
+            after,
+        };
         spoil(&mut exchange);
         let mut answer = vec![exchange.outcome];
         answer.extend_from_slice(&exchange.count.to_le_bytes());
@@ -236,7 +251,11 @@ fn main() -> ExitCode {
         return ExitCode::SUCCESS;
     }
     let nothing: (&str, bool, Spoil) = ("nothing", false, |_| {});
-    let Some((_, _, spoil)) = FAULTS.iter().chain([&nothing]).find(|fault| fault.0 == words[0]) else {
+    let Some((_, _, spoil)) = FAULTS
+        .iter()
+        .chain([&nothing])
+        .find(|fault| fault.0 == words[0])
+    else {
         eprintln!("spoil: no fault {}", words[0]);
         return ExitCode::from(2);
     };
