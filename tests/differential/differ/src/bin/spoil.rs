@@ -188,23 +188,34 @@ fn slices(from: &mut impl Read, lengths: &[usize]) -> io::Result<Vec<Vec<u8>>> {
         .collect()
 }
 
-/// The next request, as it came and in its parts; nothing at the input's end.
-fn request(from: &mut impl Read) -> io::Result<Option<(Vec<u8>, u8, Vec<Vec<u8>>)>> {
+/// A request, as it came and in its parts.
+struct Request {
+    octets: Vec<u8>,
+    call: u8,
+    slices: Vec<Vec<u8>>,
+}
+
+/// The next request; nothing at the input's end.
+fn request(from: &mut impl Read) -> io::Result<Option<Request>> {
     let mut octets = vec![0; 6];
     if from.read(&mut octets[..1])? == 0 {
         return Ok(None);
     }
     from.read_exact(&mut octets[1..])?;
     let (call, count) = (octets[0], octets[5]);
-    let mut before = Vec::new();
+    let mut lent = Vec::new();
     for _ in 0..count {
         let mut length = [0; 4];
         from.read_exact(&mut length)?;
         octets.extend_from_slice(&length);
-        before.extend(slices(from, &[u32::from_le_bytes(length) as usize])?);
-        octets.extend_from_slice(before.last().expect("the slice just read"));
+        lent.extend(slices(from, &[u32::from_le_bytes(length) as usize])?);
+        octets.extend_from_slice(lent.last().expect("the slice just read"));
     }
-    Ok(Some((octets, call, before)))
+    Ok(Some(Request {
+        octets,
+        call,
+        slices: lent,
+    }))
 }
 
 fn serve(spoil: Spoil, part: &[String]) -> io::Result<()> {
@@ -217,17 +228,17 @@ fn serve(spoil: Spoil, part: &[String]) -> io::Result<()> {
     let mut answers = part.stdout.take().expect("a pipe");
     let mut input = io::stdin().lock();
     let mut output = io::stdout().lock();
-    while let Some((octets, call, before)) = request(&mut input)? {
-        requests.write_all(&octets)?;
+    while let Some(request) = request(&mut input)? {
+        requests.write_all(&request.octets)?;
         requests.flush()?;
         let mut told = [0; 9];
         answers.read_exact(&mut told)?;
-        let lengths: Vec<usize> = before.iter().map(Vec::len).collect();
+        let lengths: Vec<usize> = request.slices.iter().map(Vec::len).collect();
         let after = slices(&mut answers, &lengths)?;
         let count = u64::from_le_bytes(told[1..].try_into().expect("eight octets"));
         let mut exchange = Exchange {
-            call,
-            before,
+            call: request.call,
+            before: request.slices,
             outcome: told[0],
             count,
             after,
