@@ -3,25 +3,27 @@ use mathlib.Core.Path.{_≡_, refl, sym, ap, _∙_}
 use mathlib.Core.Bool.{Bool, true, false, false≢true, cond, not, _&&_, _||_}
 use mathlib.Core.List.{List, [], _∷_, map}
 use Prim.Native.Nat.{ℕ, zero, suc, _*_, _/_, _%_, _≤_, _<_}
-use native.Mathlib.Nat.{div-add-mod', div-mul-le-self, mul-div-cancel, zero-mul}
+use native.Mathlib.Nat.{div-add-mod', div-mul-le-self}
 use native.Mathlib.Omega.{arith}
 use borrow.Author.Tests.{eqb-true, eq-eqb}
 use lib.Dec.{leb}
-use lib.ListN.{length, take, drop, length-map, length-append, length-drop}
-use lib.Seq.{take-at, drop-at, length-take-le}
+use lib.ListN.{length, take, drop, length-map, length-drop}
+use lib.Seq.{length-take-le}
 use Rattle.rules.specs.Lists.{tick, count, any, all}
 use Rattle.rules.specs.Octets.{octetString}
-use Rattle.rules.specs.Tables.{Rec, cut, records, bytes, free?, blank, used, room?, put, clear, Change, none, store, wipe, change, written}
-use Rattle.rules.proofs.Lists.{some?, none?, and-parts, split, join, count-keep, count-same, any-count, all-count, all-weaken, all-keep, all-append, all-take, all-drop}
+use Rattle.rules.specs.Tables.{Rec, cut, records, bytes, free?, blank, used, someFree, put, clear, Change, none, store, wipe, change, written}
+use Rattle.rules.proofs.Lists.{some?, none?, and-parts, split, join, count-keep, count-same, any-count, all-count, all-weaken, all-keep}
+use Rattle.rules.proofs.Lists.{all-append, all-take, all-drop}
+use Rattle.rules.proofs.Records.{Each, length-records, length-bytes, records-bytes}
 use Rattle.rules.proofs.Words.{shaped}
 
 -- What must hold of a change
 
 -- there is room for what is stored, and it is no free record
-unfoldable pub Room : Change → List Rec → Type 0
-Room none t = Unit {0}
-Room (store r) t = (room? t ≡ true) × (free? r ≡ false)
-Room (wipe q) t = Unit {0}
+unfoldable pub Storable : Change → List Rec → Type 0
+Storable none t = Unit {0}
+Storable (store r) t = (someFree t ≡ true) × (free? r ≡ false)
+Storable (wipe q) t = Unit {0}
 
 -- what is stored passes
 unfoldable pub New : Change → (Rec → Bool) → Type 0
@@ -50,12 +52,12 @@ tick-swap false false n = refl
 
 -- a test that no free record passes
 module _ (P : Rec → Bool) (none-free : (r : Rec) → free? r ≡ true → P r ≡ false) where
-  put-raw : (r : Rec) (t : List Rec) → room? t ≡ true → count P (put r t) ≡ tick (P r) (count P t)
-  unfolding put room? count any
+  put-raw : (r : Rec) (t : List Rec) → someFree t ≡ true → count P (put r t) ≡ tick (P r) (count P t)
+  unfolding put someFree count any
   put-raw r [] h = absurd (false≢true h)
   put-raw r (x ∷ t) h = step (free? x) refl h (λ k. put-raw r t k)
     where
-      step : (b : Bool) → free? x ≡ b → (b || any free? t) ≡ true → (room? t ≡ true → count P (put r t) ≡ tick (P r) (count P t))
+      step : (b : Bool) → free? x ≡ b → (b || any free? t) ≡ true → (someFree t ≡ true → count P (put r t) ≡ tick (P r) (count P t))
           → count P (cond b (r ∷ t) (x ∷ put r t)) ≡ tick (P r) (tick (P x) (count P t))
       step true e h ih = rw (none-free x e)
       step false e h ih = rw (ih h) (tick-swap (P x) (P r) (count P t))
@@ -74,7 +76,7 @@ used-none-free : (p : Rec → Bool) (r : Rec) → free? r ≡ true → (not (fre
 used-none-free p r e = rw e
 
 -- an addition is one more
-pub count-put : (p : Rec → Bool) (r : Rec) (t : List Rec) → room? t ≡ true → free? r ≡ false → count p (used (put r t)) ≡ tick (p r) (count p (used t))
+pub count-put : (p : Rec → Bool) (r : Rec) (t : List Rec) → someFree t ≡ true → free? r ≡ false → count p (used (put r t)) ≡ tick (p r) (count p (used t))
 unfolding used
 count-put p r t h f = count-keep _ _ (put r t) ∙ put-raw _ (used-none-free p) r t h ∙ rw (f, count-keep)
 
@@ -86,7 +88,8 @@ and-swap false false c = refl
 -- a removal leaves those that do not pass
 pub count-clear : (p q : Rec → Bool) (t : List Rec) → count p (used (clear q t)) ≡ count (λ r. not (q r) && p r) (used t)
 unfolding used
-count-clear p q t = count-keep _ _ (clear q t) ∙ clear-raw _ (used-none-free p) q t ∙ count-same _ _ (λ r. and-swap (not (q r)) (not (free? r)) (p r)) t ∙ sym (count-keep _ _ t)
+count-clear p q t = count-keep _ _ (clear q t) ∙ clear-raw _ (used-none-free p) q t
+    ∙ count-same _ _ (λ r. and-swap (not (q r)) (not (free? r)) (p r)) t ∙ sym (count-keep _ _ t)
 
 -- Finding the used records
 
@@ -95,8 +98,9 @@ unfolding some?
 some-tick true n = refl
 some-tick false n = refl
 
-pub any-put : (p : Rec → Bool) (r : Rec) (t : List Rec) → room? t ≡ true → free? r ≡ false → any p (used (put r t)) ≡ (p r || any p (used t))
-any-put p r t h f = any-count p (used (put r t)) ∙ ap some? (count-put p r t h f) ∙ some-tick (p r) (count p (used t)) ∙ ap (λ b. p r || b) (sym (any-count p (used t)))
+pub any-put : (p : Rec → Bool) (r : Rec) (t : List Rec) → someFree t ≡ true → free? r ≡ false → any p (used (put r t)) ≡ (p r || any p (used t))
+any-put p r t h f = any-count p (used (put r t)) ∙ ap some? (count-put p r t h f) ∙ some-tick (p r) (count p (used t))
+    ∙ ap (λ b. p r || b) (sym (any-count p (used t)))
 
 pub any-clear : (p q : Rec → Bool) (t : List Rec) → any p (used (clear q t)) ≡ any (λ r. not (q r) && p r) (used t)
 any-clear p q t = any-count p (used (clear q t)) ∙ ap some? (count-clear p q t) ∙ sym (any-count _ (used t))
@@ -111,9 +115,9 @@ or-right true b h = refl
 or-right false b h = h
 
 -- what is there and spared is there afterwards
-pub any-change : (c : Change) (t : List Rec) (p : Rec → Bool) → Room c t → ((r : Rec) → p r ≡ true → spares c r ≡ true)
+pub any-change : (c : Change) (t : List Rec) (p : Rec → Bool) → Storable c t → ((r : Rec) → p r ≡ true → spares c r ≡ true)
     → any p (used t) ≡ true → any p (used (change c t)) ≡ true
-unfolding Room spares change
+unfolding Storable spares change
 any-change none t p f s h = h
 any-change (store x) t p f s h = any-put p x t f.0 f.1 ∙ or-right (p x) (any p (used t)) h
 any-change (wipe q) t p f s h =
@@ -146,12 +150,13 @@ module _ (s P Q : Rec → Bool) (t : List Rec) (kind : all s t ≡ true) (h : al
   used-weaken : (R : Rec → Bool) → ((r : Rec) → s r ≡ true → P r ≡ true → R r ≡ true) → all R (used t) ≡ true
   used-weaken R w = all-weaken (λ r. s r && P r) R (λ r e. let a = and-parts (s r) (P r) e in w r a.0 a.1) (used t) (all-and s P (used t) (all-used s t kind) h)
 
-  pub every-change : (c : Change) → Room c t → New c s → New c P → ((r : Rec) → s r ≡ true → spares c r ≡ true → P r ≡ true → Q r ≡ true)
+  pub every-change : (c : Change) → Storable c t → New c s → New c P → ((r : Rec) → s r ≡ true → spares c r ≡ true → P r ≡ true → Q r ≡ true)
       → all Q (used (change c t)) ≡ true
-  unfolding Room spares change New
+  unfolding Storable spares change New
   every-change none f n m w = used-weaken Q (λ r e. w r e refl)
   every-change (store x) f n m w =
-      all-count Q (used (put x t)) ∙ ap none? (count-put (λ r. not (Q r)) x t f.0 f.1) ∙ rw (w x n refl m) (sym (all-count Q (used t)) ∙ used-weaken Q (λ r e. w r e refl))
+      all-count Q (used (put x t)) ∙ ap none? (count-put (λ r. not (Q r)) x t f.0 f.1)
+      ∙ rw (w x n refl m) (sym (all-count Q (used t)) ∙ used-weaken Q (λ r e. w r e refl))
   every-change (wipe q) f n m w =
       all-count Q (used (clear q t)) ∙ ap none? (count-clear (λ r. not (Q r)) q t ∙ count-same _ (λ r. not (q r || Q r)) (λ r. de-morgan (q r) (Q r)) (used t))
       ∙ sym (all-count (λ r. q r || Q r) (used t)) ∙ used-weaken (λ r. q r || Q r) (λ r e i. or-case (q r) (Q r) (λ k. w r e k i))
@@ -170,7 +175,8 @@ unfolding all clear
 all-clear s q [] f h = refl
 all-clear s q (y ∷ t) f h =
     let a = and-parts (s y) (all s t) h in
-    elim (q y) as (λ b. (s (cond b (blank y) y) && all s (clear q t)) ≡ true) [ true ↦ rw (f y a.0) (all-clear s q t f a.1) | false ↦ rw a.0 (all-clear s q t f a.1) ]
+    elim (q y) as (λ b. (s (cond b (blank y) y) && all s (clear q t)) ≡ true)
+    [ true ↦ rw (f y a.0) (all-clear s q t f a.1) | false ↦ rw a.0 (all-clear s q t f a.1) ]
 
 shaped-blank : (k : ℕ) (r : Rec) → shaped k r ≡ true → shaped k (blank r) ≡ true
 unfolding shaped blank octetString all
@@ -199,14 +205,6 @@ length-change (wipe q) t = length-map t _
 
 -- Octets and records
 
-length-cut : (n k : ℕ) (t : List ℕ) → length (cut n k t) ≡ n
-length-cut zero k t = refl
-length-cut (suc n) k t = ap suc (length-cut n k (drop k t))
-
-pub length-records : (k : ℕ) (t : List ℕ) → length (records k t) ≡ length t / k
-unfolding records
-length-records k t = length-cut (length t / k) k t
-
 shaped-cut : (n k : ℕ) (t : List ℕ) → n * k ≤ length t → octetString t ≡ true → all (shaped k) (cut n k t) ≡ true
 unfolding all shaped octetString
 shaped-cut zero k t l h = refl
@@ -220,27 +218,12 @@ unfolding records
 shaped-records k t h = shaped-cut (length t / k) k t (div-mul-le-self (length t) k) h
 
 module _ (k : ℕ) where
-  size-of : (r : Rec) → shaped k r ≡ true → length r ≡ k
-  unfolding shaped
-  size-of r h = eqb-true (length r) k (split h .0)
-
-  pub length-bytes : (t : List Rec) → all (shaped k) t ≡ true → length (bytes t) ≡ length t * k
-  unfolding all
-  length-bytes [] h = rw zero-mul
-  length-bytes (r ∷ t) h =
+  pub each-shaped : (t : List Rec) → all (shaped k) t ≡ true → Each k t
+  unfolding all shaped
+  each-shaped [] h = tt
+  each-shaped (r ∷ t) h =
       let a = and-parts (shaped k r) (all (shaped k) t) h in
-      rw (length-append, size-of r a.0, length-bytes t a.1) (omega arith)
-
-  cut-bytes : (t : List Rec) → all (shaped k) t ≡ true → cut (length t) k (bytes t) ≡ t
-  unfolding all
-  cut-bytes [] h = refl
-  cut-bytes (r ∷ t) h =
-      let a = and-parts (shaped k r) (all (shaped k) t) h in
-      rw (take-at r (bytes t) k (size-of r a.0), drop-at r (bytes t) k (size-of r a.0), cut-bytes t a.1)
-
-  records-of-bytes : 0 < k → (t : List Rec) → all (shaped k) t ≡ true → records k (bytes t) ≡ t
-  unfolding records
-  records-of-bytes p t h = rw (length-bytes t h, mul-div-cancel (length t) p) (cut-bytes t h)
+      (eqb-true (length r) k (split (a.0) .0), each-shaped t a.1)
 
   octets-bytes : (t : List Rec) → all (shaped k) t ≡ true → octetString (bytes t) ≡ true
   unfolding all shaped octetString
@@ -260,8 +243,8 @@ module _ (k : ℕ) (p : 0 < k) (c : Change) (t : List ℕ) (n : New c (shaped k)
     where
       by : (c : Change) → all (shaped k) (change c (records k t)) ≡ true → records k (written k c t) ≡ change c (records k t)
       by none h = refl
-      by (store r) h = records-of-bytes k p _ h
-      by (wipe q) h = records-of-bytes k p _ h
+      by (store r) h = records-bytes k _ p (each-shaped k _ h)
+      by (wipe q) h = records-bytes k _ p (each-shaped k _ h)
 
   pub octets-written : octetString (written k c t) ≡ true
   unfolding written change
@@ -280,7 +263,7 @@ module _ (k : ℕ) (p : 0 < k) (c : Change) (t : List ℕ) (n : New c (shaped k)
       whole = omega (arith, div-add-mod' (length t) k)
 
       long : (c : Change) → all (shaped k) (change c (records k t)) ≡ true → length (bytes (change c (records k t))) ≡ length t
-      long c h = length-bytes k (change c (records k t)) h ∙ ap (λ i. i * k) (length-change c (records k t) ∙ length-records k t) ∙ whole
+      long c h = length-bytes k (change c (records k t)) (each-shaped k _ h) ∙ ap (λ i. i * k) (length-change c (records k t) ∙ length-records k t) ∙ whole
 
       by : (c : Change) → all (shaped k) (change c (records k t)) ≡ true → length (written k c t) ≡ length t
       by none h = refl

@@ -2,28 +2,32 @@
 -- exactly the units linked to its sender by history, and Get Group Info counts the members that stand by history.
 use mathlib.Core.Path.{_≡_, refl, sym, ap, _∙_}
 use mathlib.Core.Bool.{true, false≢true}
-use mathlib.Core.List.{List, _++_}
+use mathlib.Core.List.{List, _∷_, _++_}
 use Prim.Native.Nat.{ℕ, _+_}
 use borrow.Author.Tests.{eqb-true}
 use lib.ListN.{length, drop}
+use Rattle.words.specs.Names.{code, ok, headerLength}
+use Rattle.words.specs.declared.Fields.{Fields}
+use Rattle.words.specs.declared.DeviceAddress.{DeviceAddress}
+use Rattle.words.specs.declared.Command.the-variants.{GetGroupInfo}
+use Rattle.words.specs.declared.Decoded.the-variants.{Is}
+use Rattle.words.specs.declared.Destination.the-variants.{Binds}
+use Rattle.words.specs.declared.Kind.the-variants.{Devices, Groups, Binds as bind-table, Members}
 use Rattle.rules.specs.Lists.{ask, _&_}
 use Rattle.rules.specs.Octets.{octet, word, octets, over}
-use Rattle.rules.specs.Names.{code, ok}
-use Rattle.rules.specs.Message.{source, sourceUnit, payload, header, reply, headerLength}
-use Rattle.rules.specs.Tables.{Lent, tables}
+use Rattle.rules.specs.Frame.{Lent, tables}
+use Rattle.rules.specs.Message.{fields, payload, reads, header, reply}
 use Rattle.rules.specs.Exists.{unitExists}
-use Rattle.rules.specs.Commands.{command, groupNamed, judge, replyPayload, granting, groupInfo}
 use Rattle.rules.specs.Recipients.{recipients}
-use Rattle.rules.specs.Calls.{roomy, wayTo, way, Answer, served, forwarded, follow, message}
-use Rattle.rules.specs.History.{sends, said, after, Event, history, granted, members, counted, Request, Exactly, memberCount, Condition3}
-use Rattle.rules.specs.declared.Command.the-variants.{GetGroupInfo}
-use Rattle.rules.specs.declared.Destination.the-variants.{Binds}
-use Rattle.rules.specs.declared.Kind.the-variants.{Binds as bind-table, Members}
+use Rattle.rules.specs.Payloads.{command, groupNamed}
+use Rattle.rules.specs.Commands.{row, judge, onOk, replyPayload, groupInfo}
+use Rattle.rules.specs.Calls.{roomy, wayTo, wayOn, way, Answer, answered, handled, forwarded, follow, message}
+use Rattle.rules.specs.History.{sends, said, after, Event, history, granted, counted, Request, Exactly, memberCount, Condition3}
 use Rattle.rules.proofs.Standing.{Agree}
-use Rattle.rules.proofs.Served.{info-granted}
-use Rattle.rules.proofs.Steps.{grantedBy, Answered, refused, handled, answered, served-granted}
+use Rattle.rules.proofs.Granted.{info-granted}
+use Rattle.rules.proofs.Steps.{grantedBy, Answers, leaves, handles, answers, handled-granted}
 use Rattle.rules.proofs.Run.{Held, held-run}
-use Rattle.rules.proofs.Links.{exists, exactly-recipients, recipients-only}
+use Rattle.rules.proofs.Links.{members, exists, exactly-recipients, recipients-only}
 use Rattle.rules.proofs.Counts.{info-count}
 
 -- where the number of members stands in a reply
@@ -31,43 +35,46 @@ unfoldable countIn : List ℕ → ℕ
 countIn r = let p : List ℕ = drop headerLength r in word (2 + octet 1 p) p
 
 -- behind the header of a reply stands its payload, and then what stood there
-behind-header : (m p r : List ℕ) → drop headerLength (over (reply m p) r) ≡ p ++ drop (length (reply m p)) r
+behind-header : (f : Fields) (p r : List ℕ) → drop headerLength (over (reply f p) r) ≡ p ++ drop (length (reply f p)) r
 unfolding over reply header octets
-behind-header m p r = refl
+behind-header f p r = refl
 
 module _ (L₀ L : Lent) (h : List Event) (k : Held L₀ L h) where
   -- room is a matter of lengths, and these stay
-  room-kept : (r l : List ℕ) → roomy L₀ r l ≡ true → roomy L r l ≡ true
+  room-kept : (r l : List ℕ) → roomy (L₀ .binds) (L₀ .members) r l ≡ true → roomy (L .binds) (L .members) r l ≡ true
   unfolding roomy
   room-kept r l e = rw (k .lengths bind-table, k .lengths Members) e
 
-  delivered : (m r l us : List ℕ) → Request h m → roomy L₀ r l ≡ true → Exactly h m us → message L m r l ≡ forwarded us L r l
-  unfolding message follow way ask wayTo _&_
+  delivered : (m r l us : List ℕ) → Request h m → roomy (L₀ .binds) (L₀ .members) r l ≡ true → Exactly h (fields m) us → message L m r l ≡ forwarded us L r l
+  unfolding message follow way reads wayOn ask wayTo _&_
   delivered m r l us q e x =
-      let is : unitExists (tables L .devices) (source m) (sourceUnit m) ≡ true = exists L₀ L h k (source m) (sourceUnit m) ∙ q .sent in
+      let f : Fields = fields m in
+      let is : unitExists (tables L Devices) (f .source) (f .«source_unit») ≡ true = exists L₀ L h k (f .source) (f .«source_unit») ∙ q .sent in
       rw (room-kept r l e, k .sane .sound, q .length, q .data-length, q .type, is, q .request, q .to-binds)
-      (ap (λ us. forwarded us L r l) (recipients-only L₀ L h k m us x))
+      (ap (λ us. forwarded us L r l) (recipients-only L₀ L h k f us x))
 
-  info-payload : (s : ℕ) (p : List ℕ) → judge (tables L) s GetGroupInfo p ≡ ok → replyPayload (tables L) s GetGroupInfo p ≡ groupInfo (tables L) (groupNamed p)
-  unfolding replyPayload granting
+  info-payload : (s : DeviceAddress) (p : List ℕ) → judge (tables L) s GetGroupInfo p ≡ ok
+      → replyPayload (tables L) GetGroupInfo p (judge (tables L) s GetGroupInfo p) ≡ ok .0 ∷ groupInfo (tables L Groups) (tables L Members) (groupNamed p)
+  unfolding replyPayload row onOk
   info-payload s p j = rw j
 
-  counted-right : (m r l : List ℕ) → command m ≡ GetGroupInfo → granted (sends m r l) (said L (sends m r l)) ≡ true
+  counted-right : (m r l : List ℕ) → command (fields m) ≡ Is GetGroupInfo → granted (sends m r l) (said L (sends m r l)) ≡ true
       → memberCount (said L (sends m r l)) ≡ counted h (groupNamed (payload m))
-  unfolding memberCount said granted grantedBy countIn counted members Agree served
-  counted-right m r l c g = by (message L m r l) refl (answered L m r l)
+  unfolding memberCount said granted grantedBy countIn counted Agree handled answered
+  counted-right m r l c g = by (message L m r l) refl (answers L m r l)
     where
-      by : (a : Answer) → message L m r l ≡ a → Answered L m r l a → countIn (message L m r l .reply) ≡ counted h (groupNamed (payload m))
-      by a e (refused t n) = absurd (false≢true (sym (ap grantedBy e ∙ n) ∙ g))
-      by a e handled =
-          let s : message L m r l ≡ served L GetGroupInfo m r l = rw c at e in
-          let j : judge (tables L) (source m) GetGroupInfo (payload m) ≡ ok =
-          ap code (eqb-true _ 0 (sym (ap grantedBy s ∙ served-granted L GetGroupInfo m r l) ∙ g)) in
+      by : (a : Answer) → message L m r l ≡ a → Answers L m r l a → countIn (message L m r l .reply) ≡ counted h (groupNamed (payload m))
+      by a e (leaves t n) = absurd (false≢true (sym (ap grantedBy e ∙ n) ∙ g))
+      by a e (handles {k = i} d) =
+          let z : i ≡ GetGroupInfo = cc in
+          let s : message L m r l ≡ handled L GetGroupInfo (fields m) (payload m) r l = rw z at e in
+          let j : judge (tables L) (fields m .source) GetGroupInfo (payload m) ≡ ok =
+          ap code (eqb-true _ 0 (sym (ap grantedBy s ∙ handled-granted L GetGroupInfo (fields m) (payload m) r l) ∙ g)) in
           ap (λ (x : Answer). countIn (x .reply)) s
           ∙ ap (λ (p : List ℕ). word (2 + octet 1 p) p)
-          (behind-header m _ r ∙ ap (λ (p : List ℕ). p ++ drop (length (reply m p)) r) (info-payload (source m) (payload m) j))
-          ∙ info-count L (groupNamed (payload m)) _ (k .sane) (info-granted (tables L) (source m) (payload m) j)
-          ∙ k .members _
+          (behind-header (fields m) _ r ∙ ap (λ (p : List ℕ). p ++ drop (length (reply (fields m) p)) r) (info-payload (fields m .source) (payload m) j))
+          ∙ info-count L (groupNamed (payload m)) (k .sane) (info-granted (tables L) (fields m .source) (payload m) j) _
+          ∙ members L₀ L h k _
 
 pub condition3 : Condition3
 condition3 L f cs o =
@@ -75,6 +82,9 @@ condition3 L f cs o =
     record {
       sound = k .sane .sound;
       delivered = delivered L (after L cs) (history L cs) k;
-      linked-units = λ m. (recipients (tables (after L cs)) Binds m, exactly-recipients L (after L cs) (history L cs) k m);
+      linked-units = λ m. (
+        recipients (tables (after L cs) bind-table) (tables (after L cs) Members) Binds m,
+        exactly-recipients L (after L cs) (history L cs) k m,
+      );
       counts = counted-right L (after L cs) (history L cs) k;
     }

@@ -9,11 +9,11 @@ use lib.Dec.{eqb}
 use lib.ListN.{length, take}
 use Rattle.rules.specs.Lists.{any, all, keep}
 use Rattle.rules.specs.Octets.{starts}
-use Rattle.rules.specs.Tables.{Rec, free?, blank, used, room?, matches, put, clear, Change, none, store, wipe, change}
+use Rattle.rules.specs.Tables.{Rec, free?, blank, used, someFree, matches, put, clear, Change, none, store, wipe, change}
 use Rattle.rules.specs.Sound.{distinct}
 use Rattle.rules.proofs.Lists.{and-parts, or-parts, split, same-truth, none-weaken, all-any}
 use Rattle.rules.proofs.Words.{shaped}
-use Rattle.rules.proofs.Changes.{Room, New, free-blank, any-put, any-clear}
+use Rattle.rules.proofs.Changes.{Storable, New, free-blank, any-put, any-clear}
 
 pub eqb-turn : (m n : ℕ) → eqb m n ≡ eqb n m
 eqb-turn m n = same-truth _ _ (λ e. eq-eqb n m (sym (eqb-true m n e))) (λ e. eq-eqb m n (sym (eqb-true n m e)))
@@ -38,9 +38,9 @@ module _ (k n : ℕ) where
       let b = eqb-true (length y) k (split g .0) in
       starts-turn n x y (omega arith)
 
-  distinct-put : (r : Rec) (t : List Rec) → room? t ≡ true → free? r ≡ false → shaped k r ≡ true → all (shaped k) t ≡ true
+  distinct-put : (r : Rec) (t : List Rec) → someFree t ≡ true → free? r ≡ false → shaped k r ≡ true → all (shaped k) t ≡ true
       → any (matches 0 (take n r)) (used t) ≡ false → distinct n t ≡ true → distinct n (put r t) ≡ true
-  unfolding distinct put used room? any all keep
+  unfolding distinct put used someFree any all keep
   distinct-put r [] h f s g a d = absurd (false≢true h)
   distinct-put r (x ∷ t) h f s g a d =
       let b = and-parts (shaped k x) (all (shaped k) t) g in
@@ -49,12 +49,18 @@ module _ (k n : ℕ) where
     where
       step : (b : Bool) → free? x ≡ b → (b || any free? t) ≡ true → any (matches 0 (take n r)) (cond (not b) (x ∷ used t) (used t)) ≡ false
           → (b || not (any (matches 0 (take n x)) (used t))) ≡ true
-          → (room? t ≡ true → any (matches 0 (take n r)) (used t) ≡ false → distinct n (put r t) ≡ true)
+          → (someFree t ≡ true → any (matches 0 (take n r)) (used t) ≡ false → distinct n (put r t) ≡ true)
           → distinct n (cond b (r ∷ t) (x ∷ put r t)) ≡ true
       step true e h a c ih = rw (f, a) (and-parts (free? x || not (any (matches 0 (take n x)) (used t))) (distinct n t) d .1)
       step false e h a c ih =
           let o = or-parts (matches 0 (take n r) x) (any (matches 0 (take n r)) (used t)) a in
-          rw (e, any-put (matches 0 (take n x)) r t h f, turned x r (and-parts (shaped k x) (all (shaped k) t) g .0) s, o.0, not-true (any (matches 0 (take n x)) (used t)) c) (ih h o.1)
+          rw (
+            e,
+            any-put (matches 0 (take n x)) r t h f,
+            turned x r (and-parts (shaped k x) (all (shaped k) t) g .0) s,
+            o.0,
+            not-true (any (matches 0 (take n x)) (used t)) c,
+          ) (ih h o.1)
 
   distinct-clear : (q : Rec → Bool) (t : List Rec) → distinct n t ≡ true → distinct n (clear q t) ≡ true
   unfolding distinct clear used keep
@@ -73,9 +79,9 @@ module _ (k n : ℕ) where
       step false true e h ih = rw e ih
       step false false e h ih = rw (e, fewer (not-true _ h)) ih
 
-  pub distinct-change : (c : Change) (t : List Rec) → Room c t → New c (shaped k) → New c (lone n t) → all (shaped k) t ≡ true
+  pub distinct-change : (c : Change) (t : List Rec) → Storable c t → New c (shaped k) → New c (lone n t) → all (shaped k) t ≡ true
       → distinct n t ≡ true → distinct n (change c t) ≡ true
-  unfolding change Room New lone
+  unfolding change Storable New lone
   distinct-change none t f s l g d = d
   distinct-change (store r) t f s l g d = distinct-put r t f.0 f.1 s g (not-true _ l) d
   distinct-change (wipe q) t f s l g d = distinct-clear q t d

@@ -7,6 +7,7 @@ use native.Mathlib.Omega.{arith}
 use borrow.Author.Tests.{le-leb, ltb-true, lt-ltb}
 use lib.Dec.{leb, ltb}
 use lib.ListN.{length}
+use Rattle.words.specs.Names.{group}
 use Rattle.rules.specs.Lists.{count, any}
 use Rattle.rules.specs.Octets.{word}
 use Rattle.rules.specs.Tables.{Rec, used, free?, addressed}
@@ -49,12 +50,14 @@ module _ (inUse : ℕ → Bool) where
   smallest-low : (n a : ℕ) → a ≤ smallest inUse n a
   unfolding smallest
   smallest-low zero a = omega arith
-  smallest-low (suc n) a = let h = smallest-low n (suc a) in elim (inUse a) as (λ b. a ≤ cond b (smallest inUse n (suc a)) a) [ true ↦ omega arith | false ↦ omega arith ]
+  smallest-low (suc n) a = let h = smallest-low n (suc a) in
+      elim (inUse a) as (λ b. a ≤ cond b (smallest inUse n (suc a)) a) [ true ↦ omega arith | false ↦ omega arith ]
 
   smallest-high : (n a : ℕ) → smallest inUse n a ≤ a + n
   unfolding smallest
   smallest-high zero a = omega arith
-  smallest-high (suc n) a = let h = smallest-high n (suc a) in elim (inUse a) as (λ b. cond b (smallest inUse n (suc a)) a ≤ a + suc n) [ true ↦ omega arith | false ↦ omega arith ]
+  smallest-high (suc n) a = let h = smallest-high n (suc a) in
+      elim (inUse a) as (λ b. cond b (smallest inUse n (suc a)) a ≤ a + suc n) [ true ↦ omega arith | false ↦ omega arith ]
 
   -- where the last candidate is in use, all are
   all-in-use : (n a : ℕ) → inUse (smallest inUse n a) ≡ true → (j : ℕ) → j < suc n → inUse (a + j) ≡ true
@@ -69,11 +72,11 @@ module _ (inUse : ℕ → Bool) where
       step true e h ih (suc j) m = let z : a + suc j ≡ suc a + j = omega arith in rw z (ih h j (omega arith))
       step false e h ih j m = absurd (false≢true (sym e ∙ h))
 
-pub new-low : (gs : List Rec) → 1 ≤ newGroup gs
+pub new-low : (gs : List Rec) → 1 ≤ newGroup gs .0
 unfolding newGroup
 new-low gs = smallest-low _ (length gs) 1
 
-pub new-high : (gs : List Rec) → newGroup gs ≤ 1 + length gs
+pub new-high : (gs : List Rec) → newGroup gs .0 ≤ 1 + length gs
 unfolding newGroup
 new-high gs = smallest-high _ (length gs) 1
 
@@ -85,7 +88,7 @@ new-fresh gs = step (groupExists gs (newGroup gs)) refl
     step false e = refl
     step true e = absurd (omega (
       arith,
-      crowd (used gs) 1 (suc (length gs)) (all-in-use (groupExists gs) (length gs) 1 e),
+      crowd (used gs) 1 (suc (length gs)) (all-in-use (λ a. groupExists gs (group a)) (length gs) 1 e),
       count-length (between 1 (suc (length gs))) (used gs),
       length-kept (λ r. not (free? r)) gs,
       count-length (λ r. not (free? r)) gs,

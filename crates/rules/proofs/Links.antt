@@ -5,35 +5,37 @@ use mathlib.Core.List.{List, [], _∷_}
 use Prim.Native.Nat.{ℕ}
 use native.Mathlib.Omega.{arith}
 use lib.Dec.{eqb, leb}
+use Rattle.words.specs.declared.DeviceAddress.{DeviceAddress}
+use Rattle.words.specs.declared.GroupAddress.{GroupAddress}
+use Rattle.words.specs.declared.Fields.{Fields}
+use Rattle.words.specs.declared.Kind.the-variants.{Devices, Binds as bind-table, Members}
+use Rattle.words.specs.declared.Destination.the-variants.{Binds}
 use Rattle.rules.specs.Lists.{any, all, keep, has, _&_}
-use Rattle.rules.specs.Octets.{octet, word}
-use Rattle.rules.specs.Units.{unitAt, rising}
+use Rattle.rules.specs.Units.{rising}
+use Rattle.rules.specs.Tables.{Rec, used}
+use Rattle.rules.specs.Layout.{size, deviceAddress, deviceHighest, toGroup, boundGroup, bindTo, memberGroup, memberNumber, inGroup}
+use Rattle.rules.specs.Frame.{Lent, tables}
 use Rattle.rules.specs.Message.{sender}
-use Rattle.rules.specs.Tables.{Rec, used, addressed, Lent, tables}
 use Rattle.rules.specs.Exists.{hasUnit, unitExists}
-use Rattle.rules.specs.Sound.{toGroup, boundTo}
-use Rattle.rules.specs.Commands.{membersOf}
-use Rattle.rules.specs.Recipients.{serves, reached, recipients}
-use Rattle.rules.specs.History.{Event, bound, members, reaches, linked, existing, Exactly}
-use Rattle.rules.specs.declared.Kind.the-variants.{Devices, Binds as bind-table, Members}
-use Rattle.rules.specs.declared.Destination.the-variants.{Binds}
+use Rattle.rules.specs.Recipients.{membersOf, bindMatches, reached, bound, recipients}
+use Rattle.rules.specs.History.{Event, hasPage, standing, reaches, linked, existing, Exactly}
 use Rattle.rules.proofs.Lists.{any-same, any-alike, any-keep, any-map, any-flatMap}
 use Rattle.rules.proofs.Words.{shaped, addressed-word}
 use Rattle.rules.proofs.Changes.{all-used, shaped-records}
 use Rattle.rules.proofs.Distinct.{eqb-turn}
 use Rattle.rules.proofs.Order.{has-ordered, has-without, rising-ordered, rising-unique}
-use Rattle.rules.proofs.Kept.{tableOf}
 use Rattle.rules.proofs.Standing.{Agree, agree-any}
 use Rattle.rules.proofs.Run.{Held}
 
-module _ (ms : List Rec) (shapes : all (shaped 5) ms ≡ true) where
-  has-members : (u g : ℕ) → any (eqb u) (membersOf ms g) ≡ any (λ x. eqb (word 0 x) g & eqb (unitAt 2 x) u) (used ms)
+module _ (ms : List Rec) (shapes : all (shaped (size Members)) ms ≡ true) where
+  has-members : (u : ℕ) (g : GroupAddress) → any (eqb u) (membersOf ms g) ≡ any (λ x. eqb (memberGroup x .0) (g .0) & eqb (memberNumber x) u) (used ms)
   unfolding membersOf _&_
   has-members u g =
-      any-map (eqb u) (unitAt 2) (keep (addressed g) (used ms))
-      ∙ any-keep (λ x. eqb u (unitAt 2 x)) (addressed g) (used ms)
-      ∙ any-alike (shaped 5) (λ x. addressed g x && eqb u (unitAt 2 x)) (λ x. eqb (word 0 x) g && eqb (unitAt 2 x) u) (λ x s. rw (addressed-word 5 g x (omega arith) s, eqb-turn u (unitAt 2 x)))
-      (used ms) (all-used (shaped 5) ms shapes)
+      any-map (eqb u) memberNumber (keep (inGroup g) (used ms))
+      ∙ any-keep (λ x. eqb u (memberNumber x)) (inGroup g) (used ms)
+      ∙ any-alike (shaped (size Members)) (λ x. inGroup g x && eqb u (memberNumber x)) (λ x. eqb (memberGroup x .0) (g .0) && eqb (memberNumber x) u)
+      (λ x s. rw (addressed-word (size Members) (g .0) x (omega arith) s, eqb-turn u (memberNumber x)))
+      (used ms) (all-used (shaped (size Members)) ms shapes)
 
   has-reached : (u : ℕ) (b : Rec) → any (eqb u) (reached ms b) ≡ reaches (used ms) u b
   unfolding reached reaches any
@@ -43,43 +45,60 @@ module _ (ms : List Rec) (shapes : all (shaped 5) ms ≡ true) where
       last true = refl
       last false = refl
 
-      step : (w : Bool) → any (eqb u) (cond w (membersOf ms (boundTo b)) (unitAt 5 b ∷ []))
-          ≡ cond w (any (λ x. eqb (word 0 x) (boundTo b) & eqb (unitAt 2 x) u) (used ms)) (eqb (unitAt 5 b) u)
-      step true = has-members u (boundTo b)
-      step false = last (eqb u (unitAt 5 b)) ∙ eqb-turn u (unitAt 5 b)
+      step : (w : Bool) → any (eqb u) (cond w (membersOf ms (boundGroup b)) (bindTo b ∷ []))
+          ≡ cond w (any (λ x. eqb (memberGroup x .0) (boundGroup b .0) & eqb (memberNumber x) u) (used ms)) (eqb (bindTo b) u)
+      step true = has-members u (boundGroup b)
+      step false = last (eqb u (bindTo b)) ∙ eqb-turn u (bindTo b)
 
 reaches-agree : (ms l : List Rec) → Agree ms l → (u : ℕ) (b : Rec) → reaches (used ms) u b ≡ reaches l u b
 unfolding reaches
-reaches-agree ms l a u b = ap (λ w. cond (toGroup b) w (eqb (unitAt 5 b) u)) (agree-any ms l a _)
+reaches-agree ms l a u b = ap (λ w. cond (toGroup b) w (eqb (bindTo b) u)) (agree-any ms l a _)
 
 module _ (L₀ L : Lent) (h : List Event) (k : Held L₀ L h) where
-  has-recipients : (m : List ℕ) (u : ℕ) → has u (recipients (tables L) Binds m) ≡ (not (eqb u (sender m)) & linked h m u)
-  unfolding recipients linked bound members tables has _&_
-  has-recipients m u =
-      has-ordered u _
-      ∙ has-without u (sender m) _
-      ∙ ap (λ w. not (eqb u (sender m)) && w)
-      (any-flatMap (eqb u) (reached (tableOf Members L)) (keep (serves m) (used (tableOf bind-table L)))
-      ∙ any-keep (λ b. any (eqb u) (reached (tableOf Members L) b)) (serves m) (used (tableOf bind-table L))
-      ∙ any-same _ _ (λ b. ap (λ w. serves m b && w)
-      (has-reached (tableOf Members L) (shaped-records 5 (L .members) (k .sane .octets Members)) u b ∙ reaches-agree (tableOf Members L) _ (k .members) u b)) (used (tableOf bind-table L))
-      ∙ agree-any (tableOf bind-table L) _ (k .binds) _)
+  binds : Agree (tables L bind-table) (standing bind-table h)
+  unfolding hasPage
+  binds = k .pages bind-table refl
 
-  rising-recipients : (m : List ℕ) → rising (recipients (tables L) Binds m) ≡ true
+  pub members : Agree (tables L Members) (standing Members h)
+  unfolding hasPage
+  members = k .pages Members refl
+
+  devices : Agree (tables L Devices) (standing Devices h)
+  unfolding hasPage
+  devices = k .pages Devices refl
+
+  abbrev listed : Fields → List ℕ
+  listed f = recipients (tables L bind-table) (tables L Members) Binds f
+
+  has-recipients : (f : Fields) (u : ℕ) → has u (listed f) ≡ (not (eqb u (sender f)) & linked h f u)
+  unfolding recipients bound linked has _&_
+  has-recipients f u =
+      has-ordered u _
+      ∙ has-without u (sender f) _
+      ∙ ap (λ w. not (eqb u (sender f)) && w)
+      (any-flatMap (eqb u) (reached (tables L Members)) (keep (bindMatches f) (used (tables L bind-table)))
+      ∙ any-keep (λ b. any (eqb u) (reached (tables L Members) b)) (bindMatches f) (used (tables L bind-table))
+      ∙ any-same _ _ (λ b. ap (λ w. bindMatches f b && w)
+      (has-reached (tables L Members) (shaped-records (size Members) (L .members) (k .sane .octets Members)) u b
+      ∙ reaches-agree (tables L Members) _ members u b)) (used (tables L bind-table))
+      ∙ agree-any (tables L bind-table) _ binds _)
+
+  rising-recipients : (f : Fields) → rising (listed f) ≡ true
   unfolding recipients
-  rising-recipients m = rising-ordered _
+  rising-recipients f = rising-ordered _
 
   -- the recipients are exactly the linked units, and there is one such list
-  pub exactly-recipients : (m : List ℕ) → Exactly h m (recipients (tables L) Binds m)
-  exactly-recipients m = record { order = rising-recipients m; exact = has-recipients m }
+  pub exactly-recipients : (f : Fields) → Exactly h f (listed f)
+  exactly-recipients f = record { order = rising-recipients f; exact = has-recipients f }
 
-  pub recipients-only : (m us : List ℕ) → Exactly h m us → recipients (tables L) Binds m ≡ us
-  recipients-only m us x = rising-unique _ us (rising-recipients m) (x .order) (λ u. has-recipients m u ∙ sym (x .exact u))
+  pub recipients-only : (f : Fields) (us : List ℕ) → Exactly h f us → listed f ≡ us
+  recipients-only f us x = rising-unique _ us (rising-recipients f) (x .order) (λ u. has-recipients f u ∙ sym (x .exact u))
 
-  pub exists : (d u : ℕ) → unitExists (tables L .devices) d u ≡ existing h d u
-  unfolding unitExists existing hasUnit tables
+  pub exists : (d : DeviceAddress) (u : ℕ) → unitExists (tables L Devices) d u ≡ existing h d u
+  unfolding unitExists existing hasUnit
   exists d u =
-      ap (λ w. cond (eqb d 0) (eqb u 0) w)
-      (any-alike (shaped 4) _ (λ x. eqb (word 0 x) d & leb u (octet 3 x)) (λ x s. rw (addressed-word 4 d x (omega arith) s)) (used (tableOf Devices L))
-      (all-used (shaped 4) (tableOf Devices L) (shaped-records 4 (L .devices) (k .sane .octets Devices)))
-      ∙ agree-any (tableOf Devices L) _ (k .devices) _)
+      ap (λ w. cond (eqb (d .0) 0) (eqb u 0) w)
+      (any-alike (shaped (size Devices)) _ (λ x. eqb (deviceAddress x .0) (d .0) & leb u (deviceHighest x))
+      (λ x s. rw (addressed-word (size Devices) (d .0) x (omega arith) s)) (used (tables L Devices))
+      (all-used (shaped (size Devices)) (tables L Devices) (shaped-records (size Devices) (L .devices) (k .sane .octets Devices)))
+      ∙ agree-any (tables L Devices) _ devices _)

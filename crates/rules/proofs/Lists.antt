@@ -168,7 +168,9 @@ module _ {A : Type 0} where
   pub length-kept : (p : A → Bool) (l : List A) → length (keep p l) ≡ count p l
   unfolding keep count
   length-kept p [] = refl
-  length-kept p (x ∷ l) = elim (p x) as (λ b. length (cond b (x ∷ keep p l) (keep p l)) ≡ tick b (count p l)) [ true ↦ ap suc (length-kept p l) | false ↦ length-kept p l ]
+  length-kept p (x ∷ l) =
+      elim (p x) as (λ b. length (cond b (x ∷ keep p l) (keep p l)) ≡ tick b (count p l))
+      [ true ↦ ap suc (length-kept p l) | false ↦ length-kept p l ]
 
   pub count-length : (p : A → Bool) (l : List A) → count p l ≤ length l
   unfolding count

@@ -1,18 +1,18 @@
 -- Laws of a table's octets and its records, by which loops over octets meet the definitions over records. Proofs above use these laws; how `records`
 -- cuts is used in this file alone.
 use mathlib.Core.Path.{_≡_, refl, sym, ap, _∙_}
-use mathlib.Core.Bool.{Bool, true, false, cond, not, _&&_, _||_}
-use mathlib.Core.List.{List, [], _∷_, _++_, map, append-assoc, append-nil}
+use mathlib.Core.Bool.{Bool, true, false, cond, _&&_, _||_}
+use mathlib.Core.List.{List, [], _∷_, _++_, append-assoc, append-nil}
 use Prim.Native.Nat.{ℕ, zero, suc, _+_, _-_, _*_, _/_, _%_, _≤_, _<_}
 use native.Mathlib.Nat.{div-eq-sub-div, div-eq-of-lt, div-add-mod', mod-eq-sub-mod, mod-eq-of-lt, div-mul-le-self}
 use native.Mathlib.Nat.{mul-div-cancel, sub-zero, zero-mul, zero-add, not-suc-le-zero, le-of-suc-le-suc}
 use native.Mathlib.Numerals.{add-one}
 use native.Mathlib.Omega.{arith}
 use lib.Dec.{eqb}
-use lib.ListN.{length, take, drop, getD, length-append, length-drop, replicate, length-replicate, length-map}
+use lib.ListN.{length, take, drop, length-append, length-drop, replicate, length-map}
 use lib.Seq.{getD-take, getD-drop, drop-drop, drop-length, take-length, length-take-le, take-add, take-at, drop-at, sets, sets-eq, length-sets}
 use Rattle.rules.specs.Octets.{octet, starts}
-use Rattle.rules.specs.Tables.{Rec, cut, records, bytes, free?, blank, matches, put, clear, Change, none, store, wipe, written}
+use Rattle.rules.specs.Tables.{Rec, cut, records, bytes, free?, blank, matches, put, clear, none, written}
 
 -- Cutting
 
@@ -259,7 +259,8 @@ clear-twice p q (r ∷ rs) = step (p r) (clear-twice p q rs)
     free-stays false = refl
 
     step : (b : Bool) → clear q (clear p rs) ≡ clear (λ r. p r || q r) rs
-        → cond (q (cond b (blank r) r)) (blank (cond b (blank r) r)) (cond b (blank r) r) ∷ clear q (clear p rs) ≡ cond (b || q r) (blank r) r ∷ clear (λ r. p r || q r) rs
+        → cond (q (cond b (blank r) r)) (blank (cond b (blank r) r)) (cond b (blank r) r) ∷ clear q (clear p rs)
+        ≡ cond (b || q r) (blank r) r ∷ clear (λ r. p r || q r) rs
     step true ih = rw (free-stays (q (blank r)), ih)
     step false ih = rw ih
 

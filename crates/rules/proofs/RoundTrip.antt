@@ -8,9 +8,11 @@ use lib.ListN.{length, length-append}
 use lib.Seq.{drop-at}
 use borrow.Author.Tests.{le-leb, eq-eqb}
 use Rattle.rules.specs.Octets.{word, octets, flag, number, joined}
-use Rattle.rules.specs.Message.{source, sourceUnit, addressType, target, targetUnit, appRef, kind, interface, member, dataLength, headerLength, longest, payload, fields, lengthFits, dataLengthFits, typeFits, readOutcome, readable, reading, header, answering, reply}
-use Rattle.rules.specs.declared.Fields.{Fields}
-use Rattle.rules.specs.declared.Outcome.the-variants.{Done}
+use Rattle.words.specs.Names.{headerLength, payloadPlace, longest, commandType, lastType}
+use Rattle.rules.specs.Message.{dataLength, messageType, payload, fields, lengthFits, dataLengthFits, typeFits, reads, readingOf, reading}
+use Rattle.rules.specs.Message.{header, answering, reply}
+use Rattle.words.specs.declared.Fields.{Fields}
+use Rattle.words.specs.declared.Outcome.the-variants.{Done}
 use Rattle.rules.proofs.Lists.{join, ask-pass}
 
 -- the fields that a message with this payload can have
@@ -18,13 +20,13 @@ pub record Sendable (f : Fields) (p : List ℕ) : Type 0 where
   pub source : f .source .0 < 32768
   pub addressType : f .«address_type» < 2
   pub destination : f .destination < 32768
-  pub least : 0x01 ≤ f .kind
-  pub most : f .kind ≤ 0x10
+  pub least : commandType ≤ f .«message_type»
+  pub most : f .«message_type» ≤ lastType
   pub interfaceType : f .«interface_type» < 2
   pub uid : f .uid < 32768
   pub its-length : f .«data_length» ≡ length p
   pub room : headerLength + length p ≤ longest
-  pub place : f .payload ≡ headerLength + 1
+  pub place : f .payload ≡ payloadPlace
 
 -- a word is read from its octets again, whole or as flag and number
 number-again : (n : ℕ) → n < 32768 → (n / 256 * 256 + n % 256) % 32768 ≡ n
@@ -54,12 +56,20 @@ module _ (f : Fields) (p : List ℕ) where
 
 module _ (f : Fields) (p : List ℕ) (s : Sendable f p) where
   pub fields-again : fields (header f ++ p) ≡ f
-  unfolding word octets flag number joined source sourceUnit addressType target targetUnit appRef kind interface member dataLength fields header
+  unfolding word octets flag number joined messageType dataLength fields header
   fields-again =
       let small : f .«data_length» < 512 = omega arith in
       let to = f .«address_type» in
       let role = f .«interface_type» in
-      rw (number-again (f .source .0) (s .source), flag-part to (f .destination) (s .addressType) (s .destination), number-part to (f .destination) (s .addressType) (s .destination), flag-part role (f .uid) (s .interfaceType) (s .uid), number-part role (f .uid) (s .interfaceType) (s .uid), nine-again (f .«data_length») small, ← s .place)
+      rw (
+        number-again (f .source .0) (s .source),
+        flag-part to (f .destination) (s .addressType) (s .destination),
+        number-part to (f .destination) (s .addressType) (s .destination),
+        flag-part role (f .uid) (s .interfaceType) (s .uid),
+        number-part role (f .uid) (s .interfaceType) (s .uid),
+        nine-again (f .«data_length») small,
+        ← s .place,
+      )
 
   length-right : lengthFits (header f ++ p) ≡ true
   unfolding lengthFits
@@ -75,17 +85,17 @@ module _ (f : Fields) (p : List ℕ) (s : Sendable f p) where
       eq-eqb (dataLength (header f ++ p)) (length (header f ++ p) - headerLength) (omega arith)
 
   type-right : typeFits (header f ++ p) ≡ true
-  unfolding octets kind typeFits header
-  type-right = join (le-leb 0x01 (f .kind) (s .least)) (le-leb (f .kind) 0x10 (s .most))
+  unfolding octets messageType typeFits header
+  type-right = join (le-leb commandType (f .«message_type») (s .least)) (le-leb (f .«message_type») lastType (s .most))
 
-  pub read-again : reading (header f ++ p) ≡ record { outcome = Done 0; fields = f }
-  unfolding readOutcome readable reading
-  read-again = rw (join (join length-right data-length-right) type-right, ask-pass _ _ length-right, ask-pass _ _ data-length-right, ask-pass _ _ type-right, fields-again)
+  pub read-again : reading (header f ++ p) ≡ readingOf (Done 0) f
+  unfolding reading reads
+  read-again = rw (ask-pass _ _ length-right, ask-pass _ _ data-length-right, ask-pass _ _ type-right, fields-again)
 
 -- the reply to any message, with any payload that fits
 module _ (m p : List ℕ) where
   reply-sendable : headerLength + length p ≤ longest → Sendable (answering (fields m) (length p)) p
-  unfolding flag number source interface fields answering
+  unfolding flag number fields answering
   reply-sendable h =
       record {
         source = omega arith;
@@ -100,14 +110,16 @@ module _ (m p : List ℕ) where
         place = refl;
       }
 
-  pub reply-read : headerLength + length p ≤ longest → reading (reply m p) ≡ record { outcome = Done 0; fields = answering (fields m) (length p) }
+  pub reply-read : headerLength + length p ≤ longest → reading (reply (fields m) p) ≡ readingOf (Done 0) (answering (fields m) (length p))
   unfolding reply
   reply-read h = read-again (answering (fields m) (length p)) p (reply-sendable h)
 
-  pub reply-length : length (reply m p) ≡ headerLength + length p
+-- .. is as long as its parts, and its payload is the one written
+module _ (f : Fields) (p : List ℕ) where
+  pub reply-length : length (reply f p) ≡ headerLength + length p
   unfolding reply
-  reply-length = whole-length (answering (fields m) (length p)) p
+  reply-length = whole-length (answering f (length p)) p
 
-  pub reply-payload : payload (reply m p) ≡ p
+  pub reply-payload : payload (reply f p) ≡ p
   unfolding reply
-  reply-payload = payload-again (answering (fields m) (length p)) p
+  reply-payload = payload-again (answering f (length p)) p

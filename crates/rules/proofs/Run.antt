@@ -8,17 +8,21 @@ use native.Mathlib.Omega.{arith}
 use borrow.Author.Tests.{eqb-true, le-leb}
 use lib.Dec.{eqb, leb}
 use lib.ListN.{length, take, drop, take-append-drop, length-drop}
+use Rattle.words.specs.declared.Kind.{Kind}
+use Rattle.words.specs.declared.Kind.the-variants.{Devices, Groups}
 use Rattle.rules.specs.Lists.{all}
 use Rattle.rules.specs.Octets.{octetString}
-use Rattle.rules.specs.Tables.{Rec, cut, records, free?, size, Lent, Tables, tables, changed}
-use Rattle.rules.specs.Sound.{soundTable, distinct, key, sound}
-use Rattle.rules.specs.History.{Call, left, said, after, Event, history, octetsOnly, granted, Entry, silent, stand, standing, bindEntry, memberEntry, deviceEntry, freeTable, freeTables}
-use Rattle.rules.specs.declared.Kind.{Kind}
-use Rattle.rules.specs.declared.Kind.the-variants.{Devices, Binds, Groups, Members}
+use Rattle.rules.specs.Tables.{Rec, cut, records, free?}
+use Rattle.rules.specs.Layout.{size, key}
+use Rattle.rules.specs.Frame.{Lent, lentOf, tables, changed}
+use Rattle.rules.specs.Sound.{soundTable, distinct, sound}
+use Rattle.rules.specs.History.{Call, left, said, after, Event, history, octetsOnly, granted, hasPage, silence, entries, stand}
+use Rattle.rules.specs.History.{standing, freeTable, freeTables}
 use Rattle.rules.proofs.Lists.{and-parts, split, join, all-weaken, all-append}
+use Rattle.rules.proofs.Frames.{every-at}
 use Rattle.rules.proofs.Changes.{shaped-records}
-use Rattle.rules.proofs.Kept.{lentOf, tableOf, changeOf, sound-of, whole-length, Sane, table-changed, length-changed, sane-changed}
-use Rattle.rules.proofs.Standing.{Says, Agree, agree-change, agree-free, free-used}
+use Rattle.rules.proofs.Kept.{sound-of, whole-length, Sane, table-changed, length-changed, sane-changed}
+use Rattle.rules.proofs.Standing.{Agree, agree-change, agree-free, free-used}
 use Rattle.rules.proofs.Steps.{entered, Step, step}
 
 -- Soundness is kept by every call
@@ -35,14 +39,15 @@ sound-left L c o b h = sane-left L c o (record { sound = h; octets = b }) .sound
 pub record Held (L₀ L : Lent) (h : List Event) : Type 0 where
   pub sane : Sane L
   pub lengths : (k : Kind) → length (lentOf k L) ≡ length (lentOf k L₀)
-  pub devices : Agree (tableOf Devices L) (standing deviceEntry h)
-  pub binds : Agree (tableOf Binds L) (standing bindEntry h)
-  pub members : Agree (tableOf Members L) (standing memberEntry h)
+  pub pages : (k : Kind) → hasPage k ≡ true → Agree (tables L k) (standing k h)
 
 -- one more event is one more entry
-standing-event : (f : Call → Entry) (e : Event) (h : List Event) → standing f (e ∷ h) ≡ stand (entered (granted (e .call) (e .told)) (f (e .call))) (standing f h)
-unfolding standing entered stand
-standing-event f e h = elim (granted (e .call) (e .told)) as (λ b. cond b (stand (f (e .call)) (standing f h)) (standing f h) ≡ stand (cond b (f (e .call)) silent) (standing f h))
+standing-event : (k : Kind) (e : Event) (h : List Event)
+    → standing k (e ∷ h) ≡ stand (entered (granted (e .call) (e .told)) (entries (e .call)) k) (standing k h)
+unfolding standing entered stand silence
+standing-event k e h =
+    elim (granted (e .call) (e .told))
+    as (λ b. cond b (stand (entries (e .call) k) (standing k h)) (standing k h) ≡ stand (cond b (entries (e .call)) silence k) (standing k h))
     [ true ↦ refl | false ↦ refl ]
 
 held-step : (L₀ L : Lent) (c : Call) (h : List Event) → octetsOnly c ≡ true → Held L₀ L h → Held L₀ (left L c) (record { call = c; told = said L c } ∷ h)
@@ -51,29 +56,24 @@ held-step L₀ L c h o k = go (step L c o (k .sane))
     S : Sane L
     S = k .sane
 
-    agree : (s : Step L c) (i : Kind) (f : Call → Entry) → Says (size i) (changeOf i (s .change)) (entered (granted c (said L c)) (f c)) → Agree (tableOf i L) (standing f h)
-        → Agree (tableOf i (changed (s .change) L)) (standing f (record { call = c; told = said L c } ∷ h))
-    agree s i f w a =
-        rw (table-changed L (s .change) (s .ok) S i, standing-event f (record { call = c; told = said L c }) h)
-        (agree-change (size i) (tableOf i L) (standing f h) w (s .ok .order i .room) (shaped-records (size i) (lentOf i L) (S .octets i)) a)
+    agree : (s : Step L c) (i : Kind) → hasPage i ≡ true → Agree (tables (changed (s .change) L) i) (standing i (record { call = c; told = said L c } ∷ h))
+    agree s i p =
+        rw (table-changed L (s .change) (s .ok) S i, standing-event i (record { call = c; told = said L c }) h)
+        (agree-change (size i) (tables L i) (standing i h) (s .told .page i p) (s .ok .order i .room)
+        (shaped-records (size i) (lentOf i L) (S .octets i)) (k .pages i p))
 
     go : Step L c → Held L₀ (left L c) (record { call = c; told = said L c } ∷ h)
     go s = rw (s .leaves) (record {
       sane = sane-changed L (s .change) (s .ok) S;
       lengths = λ i. length-changed L (s .change) (s .ok) S i ∙ k .lengths i;
-      devices = agree s Devices deviceEntry (s .told .devices) (k .devices);
-      binds = agree s Binds bindEntry (s .told .binds) (k .binds);
-      members = agree s Members memberEntry (s .told .members) (k .members);
+      pages = agree s;
     })
 
 -- Free tables are sound, and made of octets
 
 pub free-at : (L : Lent) → freeTables L ≡ true → (k : Kind) → freeTable k (lentOf k L) ≡ true
 unfolding freeTables
-free-at L h Devices = split (split (split h .0) .0) .0
-free-at L h Binds = split (split (split h .0) .0) .1
-free-at L h Groups = split (split h .0) .1
-free-at L h Members = split h .1
+free-at L h k = every-at (λ k. freeTable k (lentOf k L)) h k
 
 free-records : (k : Kind) (t : List ℕ) → freeTable k t ≡ true → all free? (records (size k) t) ≡ true
 unfolding freeTable
@@ -89,7 +89,8 @@ free-cut zero k [] e h = refl
 free-cut zero k (o ∷ t) e h = absurd (omega arith)
 free-cut (suc n) k t e h =
     let a = and-parts (free? (take k t)) (all free? (cut n k (drop k t))) h in
-    rw (take-append-drop k t) at (all-append (λ o. leb o 255) (take k t) (drop k t) (free-record (take k t) a.0) (free-cut n k (drop k t) (rw length-drop (omega arith)) a.1))
+    rw (take-append-drop k t) at (all-append (λ o. leb o 255) (take k t) (drop k t) (free-record (take k t) a.0)
+    (free-cut n k (drop k t) (rw length-drop (omega arith)) a.1))
 
 free-octets : (k : Kind) (t : List ℕ) → freeTable k t ≡ true → octetString t ≡ true
 unfolding freeTable records
@@ -103,13 +104,13 @@ unfolding distinct all
 free-distinct n [] h = refl
 free-distinct n (r ∷ t) h = let a = and-parts (free? r) (all free? t) h in rw (a.0) (free-distinct n t a.1)
 
-free-sound : (k : Kind) (T : Tables) (t : List ℕ) → freeTable k t ≡ true → soundTable k T t ≡ true
+free-sound : (k : Kind) (ds gs : List Rec) (t : List ℕ) → freeTable k t ≡ true → soundTable k ds gs t ≡ true
 unfolding freeTable soundTable all
-free-sound k T t h = let a = split h in join (join a.0 (rw (free-used (records (size k) t) a.1))) (free-distinct (key k) (records (size k) t) a.1)
+free-sound k ds gs t h = let a = split h in join (join a.0 (rw (free-used (records (size k) t) a.1))) (free-distinct (key k) (records (size k) t) a.1)
 
 sane-start : (L : Lent) → freeTables L ≡ true → Sane L
 sane-start L h = record {
-  sound = sound-of L (λ k. free-sound k (tables L) (lentOf k L) (free-at L h k));
+  sound = sound-of L (λ k. free-sound k (tables L Devices) (tables L Groups) (lentOf k L) (free-at L h k));
   octets = λ k. free-octets k (lentOf k L) (free-at L h k);
 }
 
@@ -118,9 +119,7 @@ unfolding standing
 held-start L h = record {
   sane = sane-start L h;
   lengths = λ k. refl;
-  devices = agree-free _ (free-records Devices _ (free-at L h Devices));
-  binds = agree-free _ (free-records Binds _ (free-at L h Binds));
-  members = agree-free _ (free-records Members _ (free-at L h Members));
+  pages = λ k p. agree-free _ (free-records k _ (free-at L h k));
 }
 
 pub held-run : (L : Lent) → freeTables L ≡ true → (cs : List Call) → all octetsOnly cs ≡ true → Held L (after L cs) (history L cs)

@@ -8,7 +8,7 @@ use Rattle.rules.specs.Tables.{Rec, free?, used, Change, none, store, wi
 use Rattle.rules.specs.History.{Entry, silent, adds, withdraws, stand}
 use Rattle.rules.proofs.Lists.{some?, and-parts, count-keep, count-alike, any-count}
 use Rattle.rules.proofs.Words.{shaped}
-use Rattle.rules.proofs.Changes.{Room, count-put, count-clear, all-used}
+use Rattle.rules.proofs.Changes.{Storable, count-put, count-clear, all-used}
 
 -- what the sheet says is what the table suffers; a stroke and a removal need only agree on records of the table's size
 pub data Says (k : ℕ) : Change → Entry → Type 0 where
@@ -20,9 +20,9 @@ pub data Says (k : ℕ) : Change → Entry → Type 0 where
 unfoldable pub Agree : List Rec → List Rec → Type 0
 Agree t l = (p : Rec → Bool) → count p (used t) ≡ count p l
 
-pub agree-change : (k : ℕ) {c : Change} {e : Entry} (t l : List Rec) → Says k c e → Room c t → all (shaped k) t ≡ true → Agree t l
+pub agree-change : (k : ℕ) {c : Change} {e : Entry} (t l : List Rec) → Says k c e → Storable c t → all (shaped k) t ≡ true → Agree t l
     → Agree (change c t) (stand e l)
-unfolding Agree Room change stand count
+unfolding Agree Storable change stand count
 agree-change k t l says-nothing f s a p = a p
 agree-change k t l (says-added {r = r}) f s a p = count-put p r t f.0 f.1 ∙ ap (tick (p r)) (a p)
 agree-change k t l (says-withdrawn {q = q} {w = w} e) f s a p =

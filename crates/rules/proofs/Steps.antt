@@ -5,198 +5,144 @@ use mathlib.Core.List.{List, [], _∷_}
 use Prim.Native.Nat.{ℕ}
 use borrow.Author.Tests.{eqb-true}
 use lib.Dec.{eqb}
-use Rattle.rules.specs.Lists.{ask, _&_}
+use Rattle.words.specs.Names.{code, ok, headerLength}
+use Rattle.words.specs.Outcomes.{numberOf}
+use Rattle.words.specs.declared.Fields.{Fields}
+use Rattle.words.specs.declared.Code.{Code}
+use Rattle.words.specs.declared.Kind.the-variants.{Binds as bind-table, Members}
+use Rattle.words.specs.declared.Command.{Command}
+use Rattle.words.specs.declared.Decoded.the-variants.{Is}
+use Rattle.words.specs.declared.Outcome.{Outcome}
+use Rattle.words.specs.declared.Way.{Way}
+use Rattle.rules.specs.Lists.{_&_}
 use Rattle.rules.specs.Octets.{octet, octets, over, octetString}
-use Rattle.rules.specs.Names.{code, ok}
-use Rattle.rules.specs.Message.{source, headerLength, payload, header, reply}
-use Rattle.rules.specs.Tables.{Lent, Tables, tables, written, Effect, nothing, changed}
-use Rattle.rules.specs.Commands.{command, judge, effect, done, info, groupInfo, granting as granted-payload, replyPayload}
+use Rattle.rules.specs.Frame.{Lent, tables, Effect, nothing, changed}
+use Rattle.rules.specs.Message.{fields, payload, header, reply}
 use Rattle.rules.specs.Recipients.{recipients}
-use Rattle.rules.specs.Host.{HostAnswer, admit, release}
-use Rattle.rules.specs.Calls.{serving, wayTo, way, Answer, answer, served, forwarded, follow, message}
-use Rattle.rules.specs.Outcomes.{numberOf}
-use Rattle.rules.specs.History.{Call, sends, admits, releases, said, left, octetsOnly, granted, Entry, silent, bindLine, memberLine, bindEntry, memberEntry, deviceEntry}
-use Rattle.rules.specs.declared.Command.{Command}
-use Rattle.rules.specs.declared.Command.the-variants.{AddBind, RemoveBinds, CreateGroup, DeleteGroup, AddToGroup, RemoveFromGroup, GetGroupInfo, Other}
-use Rattle.rules.specs.declared.Destination.{Destination}
-use Rattle.rules.specs.declared.Destination.the-variants.{Concentrator, Binds, Unit as One, Group}
-use Rattle.rules.specs.declared.Outcome.{Outcome}
-use Rattle.rules.specs.declared.Outcome.the-variants.{WrongLength, WrongDataLength, WrongType, NoSource, NoDestination, ResponseToMany, Unsound, NoRoom}
-use Rattle.rules.specs.declared.Way.{Way}
-use Rattle.rules.specs.declared.Way.the-variants.{Refuse, Serve, Forward}
+use Rattle.rules.specs.Payloads.{command}
+use Rattle.rules.specs.Commands.{row, judge, onOk, done, replyPayload}
+use Rattle.rules.specs.Host.{settled, admit, release}
+use Rattle.rules.specs.Calls.{Answer, answer, answered, handled, forwarded, follow, message}
+use Rattle.rules.specs.History.{Call, sends, admits, releases, said, left, octetsOnly, granted, Entries, silence, lines, asked, entries}
 use Rattle.rules.proofs.Lists.{all-drop}
+use Rattle.rules.proofs.Frames.{changed-nothing}
 use Rattle.rules.proofs.Kept.{Sane, Ok, ok-nothing}
-use Rattle.rules.proofs.Served.{ok-granted, Told, told-nothing, told-command}
+use Rattle.rules.proofs.Granted.{Granted, granted-command, Told, told-nothing}
 use Rattle.rules.proofs.Hosted.{Hosted, granting, refusing, hosted-admit, hosted-release}
+use Rattle.rules.proofs.Ways.{Acting, Ways, refuses, serves, forwards, ways}
 
--- Which way a message goes: to be refused, to be served as the command that it is, or to be handed on
-
-data Ways (k : Command) : Way → Type 0 where
-  refuses : {o : Outcome} → eqb (numberOf o) 0 ≡ false → Ways k (Refuse o)
-  serves : Ways k (Serve k)
-  forwards : {to : Destination} → Ways k (Forward to)
-
-ways-ask : {k : Command} {w : Way} (b : Bool) (o : Outcome) → eqb (numberOf o) 0 ≡ false → Ways k w → Ways k (ask b (Refuse o) w)
-unfolding ask
-ways-ask true o n w = w
-ways-ask false o n w = refuses n
-
-ways-serving : (k : Command) → Ways k (serving k)
-unfolding serving
-ways-serving AddBind = serves
-ways-serving (RemoveBinds from n) = serves
-ways-serving CreateGroup = serves
-ways-serving DeleteGroup = serves
-ways-serving AddToGroup = serves
-ways-serving RemoveFromGroup = serves
-ways-serving GetGroupInfo = serves
-ways-serving Other = refuses refl
-
-ways-to : (T : Tables) (to : Destination) (m : List ℕ) → Ways (command m) (wayTo T to m)
-unfolding wayTo
-ways-to T Concentrator m = ways-serving (command m)
-ways-to T Binds m = forwards
-ways-to T (One d u) m = ways-ask _ NoDestination refl forwards
-ways-to T (Group g) m = ways-ask _ NoDestination refl forwards
-
-ways : (L : Lent) (m r l : List ℕ) → Ways (command m) (way L m r l)
-unfolding way
-ways L m r l =
-    ways-ask _ NoRoom refl (ways-ask _ Unsound refl (ways-ask _ WrongLength refl (ways-ask _ WrongDataLength refl
-    (ways-ask _ WrongType refl (ways-ask _ NoSource refl (ways-ask _ ResponseToMany refl (ways-to (tables L) _ m)))))))
-
--- What a message answers
+-- What a message answers: a refusal or a list, which leaves the tables, or the command that it is
 
 unfoldable pub grantedBy : Answer → Bool
 grantedBy a = eqb (numberOf (a .outcome)) 0 & eqb (octet headerLength (a .reply)) (ok .0)
 
-pub data Answered (L : Lent) (m r l : List ℕ) : Answer → Type 0 where
-  refused : {a : Answer} → a .tables ≡ L → grantedBy a ≡ false → Answered L m r l a
-  handled : Answered L m r l (served L (command m) m r l)
+pub data Answers (L : Lent) (m r l : List ℕ) : Answer → Type 0 where
+  leaves : {a : Answer} → a .tables ≡ L → grantedBy a ≡ false → Answers L m r l a
+  handles : {k : Command} → command (fields m) ≡ Is k → Answers L m r l (handled L k (fields m) (payload m) r l)
 
 not-granted : (a : Answer) → eqb (numberOf (a .outcome)) 0 ≡ false → grantedBy a ≡ false
 unfolding grantedBy _&_
 not-granted a h = rw h
 
-handed-on : (us : List ℕ) (L : Lent) (m r l : List ℕ) → Answered L m r l (forwarded us L r l)
+handed-on : (us : List ℕ) (L : Lent) (m r l : List ℕ) → Answers L m r l (forwarded us L r l)
 unfolding forwarded
-handed-on [] L m r l = refused refl (not-granted _ refl)
-handed-on (u ∷ us) L m r l = refused refl (not-granted _ refl)
+handed-on [] L m r l = leaves refl (not-granted _ refl)
+handed-on (u ∷ us) L m r l = leaves refl (not-granted _ refl)
 
-pub answered : (L : Lent) (m r l : List ℕ) → Answered L m r l (message L m r l)
+pub answers : (L : Lent) (m r l : List ℕ) → Answers L m r l (message L m r l)
 unfolding message follow
-answered L m r l = by (ways L m r l)
+answers L m r l = by (ways L m r l)
   where
-    by : {w : Way} → Ways (command m) w → Answered L m r l (follow w L m r l)
-    by (refuses {o = o} n) = refused refl (not-granted (answer o L r l) n)
-    by serves = handled
-    by (forwards {to = to}) = handed-on (recipients (tables L) to m) L m r l
+    by : {w : Way} → Ways (Acting L m r l) (fields m) w → Answers L m r l (follow w L m r l)
+    by (refuses {o = o} n) = leaves refl (not-granted (answer o L r l) n.0)
+    by (serves {k = k} p e) = handles e
+    by (forwards {to = to} p e) = handed-on (recipients (tables L bind-table) (tables L Members) to (fields m)) L m r l
 
--- the code of a served command is octet 16 of its reply
-
-granting-code : (T : Tables) (k : Command) (p m r : List ℕ) → octet headerLength (over (reply m (granted-payload T k p)) r) ≡ 0
-unfolding granted-payload groupInfo info over reply header octets
-granting-code T AddBind p m r = refl
-granting-code T (RemoveBinds from n) p m r = refl
-granting-code T CreateGroup p m r = refl
-granting-code T DeleteGroup p m r = refl
-granting-code T AddToGroup p m r = refl
-granting-code T RemoveFromGroup p m r = refl
-granting-code T GetGroupInfo p m r = refl
-granting-code T Other p m r = refl
-
-pub served-granted : (L : Lent) (k : Command) (m r l : List ℕ) → grantedBy (served L k m r l) ≡ eqb (judge (tables L) (source m) k (payload m) .0) 0
-unfolding grantedBy served replyPayload _&_ over reply header octets
-served-granted L k m r l = step (eqb (judge (tables L) (source m) k (payload m) .0) 0) refl
-  where
-    T : Tables
-    T = tables L
-
-    c : ℕ
-    c = judge T (source m) k (payload m) .0
-
-    step : (b : Bool) → eqb c 0 ≡ b → eqb (octet headerLength (over (reply m (cond b (granted-payload T k (payload m)) (c ∷ []))) r)) 0 ≡ b
-    step true e = rw (granting-code T k (payload m) m r)
-    step false e = e
+-- the code of a command is octet 16 of its reply
+pub handled-granted : (L : Lent) (k : Command) (f : Fields) (p r l : List ℕ)
+    → grantedBy (handled L k f p r l) ≡ eqb (judge (tables L) (f .source) k p .0) (ok .0)
+unfolding grantedBy handled answered replyPayload _&_ over reply header octets
+handled-granted L k f p r l = refl
 
 -- The step
 
 -- what a call writes on the sheet: nothing, unless it was granted
-unfoldable pub entered : Bool → Entry → Entry
-entered b e = cond b e silent
-
-abbrev pub ToldBy : Effect → Bool → Call → Type 0
-ToldBy x b c = Told x (entered b (deviceEntry c)) (entered b (bindEntry c)) (entered b (memberEntry c))
+unfoldable pub entered : Bool → Entries → Entries
+entered b e = cond b e silence
 
 pub record Step (L : Lent) (c : Call) : Type 0 where
   pub change : Effect
   pub leaves : left L c ≡ changed change L
   pub ok : Ok L change
-  pub told : ToldBy change (granted c (said L c)) c
+  pub told : Told change (entered (granted c (said L c)) (entries c))
 
-nothing-changed : (L : Lent) → changed nothing L ≡ L
-unfolding changed nothing written
-nothing-changed L = refl
-
-told-when : {x : Effect} (c : Call) {b b′ : Bool} → b ≡ b′ → ToldBy x b′ c → ToldBy x b c
-told-when c h t = rw h t
+told-when : {x : Effect} (e : Entries) {b b′ : Bool} → b ≡ b′ → Told x (entered b′ e) → Told x (entered b e)
+told-when e h t = rw h t
 
 -- where nothing is granted, nothing is told
-told-refused : (c : Call) → ToldBy nothing false c
+told-refused : (e : Entries) → Told nothing (entered false e)
 unfolding entered
-told-refused c = told-nothing
+told-refused e = told-nothing
 
-module _ (L : Lent) (s : ℕ) (k : Command) (p : List ℕ) where
-  abbrev given : Bool
-  given = eqb (judge (tables L) s k p .0) 0
-
-  ok-done : octetString p ≡ true → Sane L → Ok L (done (tables L) s k p)
-  unfolding done
-  ok-done o S = step given refl
+-- a command does something or nothing, by its code
+module _ (L : Lent) (k : Command) (p : List ℕ) (c : Code) (h : c ≡ ok → Granted L k p) where
+  ok-done : Ok L (done (tables L) k p c)
+  unfolding done onOk
+  ok-done = step (eqb (c .0) (ok .0)) refl
     where
-      step : (b : Bool) → given ≡ b → Ok L (cond b (effect (tables L) k p) nothing)
-      step true e = ok-granted L p o s k S (ap code (eqb-true (judge (tables L) s k p .0) 0 e))
+      step : (b : Bool) → eqb (c .0) (ok .0) ≡ b → Ok L (cond b (row k .effect (tables L) p) nothing)
+      step true e = h (ap code (eqb-true (c .0) (ok .0) e)) .ok
       step false e = ok-nothing L
 
-  told-done : octetString p ≡ true → Told (done (tables L) s k p) (entered given silent) (entered given (bindLine k p)) (entered given (memberLine k p))
-  unfolding done entered
-  told-done o = step given
+  told-done : Told (done (tables L) k p c) (entered (eqb (c .0) (ok .0)) (lines k p))
+  unfolding done onOk entered
+  told-done = step (eqb (c .0) (ok .0)) refl
     where
-      step : (b : Bool) → Told (cond b (effect (tables L) k p) nothing) (cond b silent silent) (cond b (bindLine k p) silent) (cond b (memberLine k p) silent)
-      step true = told-command (tables L) k p o
-      step false = told-nothing
+      step : (b : Bool) → eqb (c .0) (ok .0) ≡ b → Told (cond b (row k .effect (tables L) p) nothing) (cond b (lines k p) silence)
+      step true e = h (ap code (eqb-true (c .0) (ok .0) e)) .told
+      step false e = told-nothing
 
 octets-payload : (m : List ℕ) → octetString m ≡ true → octetString (payload m) ≡ true
 unfolding octetString payload
 octets-payload m o = all-drop _ headerLength m o
 
 step-message : (L : Lent) (m r l : List ℕ) → octetString m ≡ true → Sane L → Step L (sends m r l)
-unfolding left said granted deviceEntry bindEntry memberEntry grantedBy served
-step-message L m r l o S = by (message L m r l) refl (answered L m r l)
+unfolding left said granted entries asked grantedBy handled answered
+step-message L m r l o S = by (message L m r l) refl (answers L m r l)
   where
-    by : (a : Answer) → message L m r l ≡ a → Answered L m r l a → Step L (sends m r l)
-    by a e (refused t n) = record {
+    by : (a : Answer) → message L m r l ≡ a → Answers L m r l a → Step L (sends m r l)
+    by a e (leaves t n) = record {
       change = nothing;
-      leaves = ap (λ (x : Answer). x .tables) e ∙ t ∙ sym (nothing-changed L);
+      leaves = ap (λ (x : Answer). x .tables) e ∙ t ∙ sym (changed-nothing L);
       ok = ok-nothing L;
-      told = told-when (sends m r l) (ap grantedBy e ∙ n) (told-refused (sends m r l));
+      told = told-when (entries (sends m r l)) (ap grantedBy e ∙ n) (told-refused (entries (sends m r l)));
     }
-    by a e handled = record {
-      change = done (tables L) (source m) (command m) (payload m);
-      leaves = ap (λ (x : Answer). x .tables) e;
-      ok = ok-done L (source m) (command m) (payload m) (octets-payload m o) S;
-      told = told-when (sends m r l) (ap grantedBy e ∙ served-granted L (command m) m r l) (told-done L (source m) (command m) (payload m) (octets-payload m o));
-    }
+    by a e (handles {k = k} d) =
+        let f : Fields = fields m in
+        let p : List ℕ = payload m in
+        let c : Code = judge (tables L) (f .source) k p in
+        let g : c ≡ ok → Granted L k p = granted-command L p (octets-payload m o) (f .source) k S in
+        record {
+          change = done (tables L) k p c;
+          leaves = ap (λ (x : Answer). x .tables) e;
+          ok = ok-done L k p c g;
+          told = told-when (entries (sends m r l)) (ap grantedBy e ∙ handled-granted L k f p r l) (rw d (told-done L k p c g));
+        }
 
 -- the same of a host call, whose entries are these
-step-host : (L : Lent) (c : Call) (h : HostAnswer) (x : Effect) → left L c ≡ h .tables → granted c (said L c) ≡ eqb (numberOf (h .outcome)) 0
-    → Hosted L x (deviceEntry c) (bindEntry c) (memberEntry c) h → Step L c
-unfolding entered
-step-host L c h x t g (granting o w) = record { change = x; leaves = t; ok = o; told = told-when c g w }
-step-host L c h x t g (refusing n) = record { change = nothing; leaves = t ∙ sym (nothing-changed L); ok = ok-nothing L; told = told-when c (g ∙ n) (told-refused c) }
+step-host : (L : Lent) (c : Call) (o : Outcome) (x : Effect) → left L c ≡ settled x L o .tables → granted c (said L c) ≡ eqb (numberOf o) 0
+    → Hosted L x (entries c) o → Step L c
+unfolding entered settled
+step-host L c o x t g (granting k w) = record { change = x; leaves = t; ok = k; told = told-when (entries c) g w }
+step-host L c o x t g (refusing n) = record {
+  change = nothing;
+  leaves = t ∙ rw n (sym (changed-nothing L));
+  ok = ok-nothing L;
+  told = told-when (entries c) (g ∙ n) (told-refused (entries c));
+}
 
 pub step : (L : Lent) (c : Call) → octetsOnly c ≡ true → Sane L → Step L c
-unfolding octetsOnly left said granted deviceEntry bindEntry memberEntry
+unfolding octetsOnly left said granted settled admit release
 step L (sends m r l) o S = step-message L m r l o S
-step L (admits d a u) o S = step-host L (admits d a u) (admit L d a u) _ refl refl (hosted-admit L d a u)
-step L (releases d) o S = step-host L (releases d) (release L d) _ refl refl (hosted-release L d S)
+step L (admits d a u) o S = step-host L (admits d a u) (admit L d a u .outcome) _ refl refl (hosted-admit L d a u)
+step L (releases d) o S = step-host L (releases d) (release L d .outcome) _ refl refl (hosted-release L d S)

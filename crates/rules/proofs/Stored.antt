@@ -11,9 +11,12 @@ use lib.Seq.{drop-at}
 use Rattle.rules.specs.Lists.{all}
 use Rattle.rules.specs.Octets.{octet, word, octets, ignoreTop, octetString}
 use Rattle.rules.specs.Tables.{Rec, free?}
-use Rattle.rules.specs.Sound.{addressFits, deviceFits, groupFits}
-use Rattle.rules.specs.Commands.{bindOf, memberOf, groupNamed, groupRecord}
-use Rattle.rules.specs.Host.{deviceRecord, deviceInRange}
+use Rattle.words.specs.declared.DeviceAddress.{DeviceAddress}
+use Rattle.words.specs.declared.GroupAddress.{GroupAddress}
+use Rattle.words.specs.declared.Kind.the-variants.{Devices, Binds, Groups, Members}
+use Rattle.rules.specs.Layout.{size, longestName, deviceRecord, groupRecord}
+use Rattle.rules.specs.Sound.{addressFits, deviceInRange, deviceFits, groupFits}
+use Rattle.rules.specs.Payloads.{bindOf, memberOf, groupNamed}
 use Rattle.rules.proofs.Lists.{and-parts, split, join, all-append, all-replicate}
 use Rattle.rules.proofs.Words.{shaped, octet-small}
 
@@ -42,12 +45,12 @@ no-octets : octetString [] ≡ true
 unfolding octetString all
 no-octets = refl
 
-pub bind-stored : (p : List ℕ) → length p ≡ 8 → octetString p ≡ true → Stored 8 (bindOf p)
+pub bind-stored : (p : List ℕ) → length p ≡ size Binds → octetString p ≡ true → Stored (size Binds) (bindOf p)
 unfolding bindOf ignoreTop
 bind-stored [] e h = absurd (omega arith)
 bind-stored (o ∷ p) e h = stored 8 (o % 128) p e (omega arith) (octets-behind o p h)
 
-pub member-stored : (p : List ℕ) → length p ≡ 5 → octetString p ≡ true → Stored 5 (memberOf p)
+pub member-stored : (p : List ℕ) → length p ≡ size Members → octetString p ≡ true → Stored (size Members) (memberOf p)
 unfolding memberOf ignoreTop
 member-stored [] e h = absurd (omega arith)
 member-stored (a ∷ []) e h = absurd (omega arith)
@@ -58,52 +61,53 @@ member-stored (a ∷ b ∷ c ∷ p) e h =
     (octets-before b (c % 128 ∷ p) (octet-small (b ∷ c ∷ p) 0 i) (octets-before (c % 128) p (omega arith) (octets-behind c p (octets-behind b (c ∷ p) i))))
 
 -- a group's address in a payload is 15 bits
-pub named-small : (p : List ℕ) → octetString p ≡ true → groupNamed p < 32768
+pub named-small : (p : List ℕ) → octetString p ≡ true → groupNamed p .0 < 32768
 unfolding groupNamed word ignoreTop
 named-small [] h = omega arith
 named-small (o ∷ p) h = omega (arith, octet-small (o ∷ p) 1 h)
 
 -- the record of a group
-module _ (g : ℕ) (p : List ℕ) where
-  pub group-address : word 0 (groupRecord g p) ≡ g
+module _ (g : GroupAddress) (p : List ℕ) where
+  pub group-address : word 0 (groupRecord g p) ≡ g .0
   unfolding word groupRecord octets
   group-address = omega arith
 
-  group-length : length p ≤ 14 → length (groupRecord g p) ≡ 16
+  group-length : length p ≤ 1 + longestName → length (groupRecord g p) ≡ size Groups
   unfolding groupRecord octets
   group-length h = simp (length-append, length-replicate) (omega arith)
 
-  pub group-stored : g ≤ 32766 → length p ≤ 14 → octetString p ≡ true → Stored 16 (groupRecord g p)
+  pub group-stored : g .0 ≤ 32766 → length p ≤ 1 + longestName → octetString p ≡ true → Stored (size Groups) (groupRecord g p)
   unfolding groupRecord octets octetString
   group-stored h l o =
-      stored 16 (g / 256) _ (group-length l) (omega arith)
-      (octets-before (g % 256) _ (omega arith) (all-append _ p _ o (all-replicate _ (14 - length p) 0 refl)))
+      stored (size Groups) (g .0 / 256) _ (group-length l) (omega arith)
+      (octets-before (g .0 % 256) _ (omega arith) (all-append _ p _ o (all-replicate _ (1 + longestName - length p) 0 refl)))
 
   group-padding : (n : ℕ) → length p ≡ 1 + n → all (λ o. eqb o 0) (drop (3 + n) (groupRecord g p)) ≡ true
   unfolding groupRecord octets
   group-padding n e =
       let z : 3 + n ≡ suc (suc (1 + n)) = omega arith in
-      rw (z, drop-at p (replicate (14 - length p) 0) (1 + n) e) (all-replicate _ (14 - length p) 0 refl)
+      rw (z, drop-at p (replicate (1 + longestName - length p) 0) (1 + n) e) (all-replicate _ (1 + longestName - length p) 0 refl)
 
-  pub group-meets : 1 ≤ g → g ≤ 32766 → length p ≡ 1 + octet 0 p → octet 0 p ≤ 13 → groupFits (groupRecord g p) ≡ true
+  pub group-meets : 1 ≤ g .0 → g .0 ≤ 32766 → length p ≡ 1 + octet 0 p → octet 0 p ≤ longestName → groupFits (groupRecord g p) ≡ true
   unfolding groupFits addressFits groupRecord octets
   group-meets low high e n =
       let s = name p e in
-      rw (group-address, s) (join (join (join (le-leb 1 g low) (le-leb g 32766 high)) (le-leb (octet 0 p) 13 n)) (group-padding (octet 0 p) e))
+      rw (group-address, s) (join (join (join (le-leb 1 (g .0) low) (le-leb (g .0) 32766 high)) (le-leb (octet 0 p) longestName n))
+      (group-padding (octet 0 p) e))
     where
       name : (p : List ℕ) → length p ≡ 1 + octet 0 p → octet 2 (groupRecord g p) ≡ octet 0 p
       name [] e = absurd (omega arith)
       name (o ∷ p) e = refl
 
 -- the record of a device
-module _ (d a u : ℕ) where
-  pub device-stored : d ≤ 32766 → a ≤ 1 → u ≤ 254 → Stored 4 (deviceRecord d a u)
+module _ (d : DeviceAddress) (a u : ℕ) where
+  pub device-stored : d .0 ≤ 32766 → a ≤ 1 → u ≤ 254 → Stored (size Devices) (deviceRecord d a u)
   unfolding deviceRecord octets
   device-stored h i j =
-      stored 4 (d / 256) (d % 256 ∷ a ∷ u ∷ []) refl (omega arith)
-      (octets-before (d % 256) _ (omega arith) (octets-before a _ (omega arith) (octets-before u [] (omega arith) no-octets)))
+      stored (size Devices) (d .0 / 256) (d .0 % 256 ∷ a ∷ u ∷ []) refl (omega arith)
+      (octets-before (d .0 % 256) _ (omega arith) (octets-before a _ (omega arith) (octets-before u [] (omega arith) no-octets)))
 
-  device-address : word 0 (deviceRecord d a u) ≡ d
+  device-address : word 0 (deviceRecord d a u) ≡ d .0
   unfolding word deviceRecord octets
   device-address = omega arith
 
@@ -111,13 +115,13 @@ module _ (d a u : ℕ) where
   unfolding deviceInRange deviceFits deviceRecord octets
   device-meets h = rw (device-address) h
 
-  pub device-fields : deviceInRange d a u ≡ true → (d ≤ 32766) × (a ≤ 1) × (u ≤ 254)
+  pub device-fields : deviceInRange d a u ≡ true → (d .0 ≤ 32766) × (a ≤ 1) × (u ≤ 254)
   unfolding deviceInRange addressFits
   device-fields h =
       let x = split h in
       let y = split x.0 in
-      (leb-true d 32766 (split (y.0) .1), leb-true a 1 y.1, leb-true u 254 x.1)
+      (leb-true (d .0) 32766 (split (y.0) .1), leb-true a 1 y.1, leb-true u 254 x.1)
 
 pub device-high : (r : Rec) → deviceFits r ≡ true → word 0 r ≤ 32766
-unfolding deviceFits addressFits
+unfolding deviceFits deviceInRange addressFits
 device-high r h = leb-true (word 0 r) 32766 (split (split (split h .0) .0) .1)

@@ -1,20 +1,123 @@
--- Opens every definition of the rules at once, for statements that compute.
+-- Opens every definition of the rules at once, for statements that compute: one line a file of specs/.
 use Prim.Native.Nat.{ℕ}
+use mathlib.Core.List as list
 use Rattle.rules.specs.Lists as lists
 use Rattle.rules.specs.Octets as octets
 use Rattle.rules.specs.Units as units
-use Rattle.rules.specs.Message as message
 use Rattle.rules.specs.Tables as tables
+use Rattle.rules.specs.Layout as layout
+use Rattle.rules.specs.Frame as frame
+use Rattle.rules.specs.Message as message
 use Rattle.rules.specs.Exists as exists
 use Rattle.rules.specs.Sound as sound
-use Rattle.rules.specs.Commands as commands
 use Rattle.rules.specs.Recipients as recipients
+use Rattle.rules.specs.Payloads as payloads
+use Rattle.rules.specs.Commands as commands
 use Rattle.rules.specs.Copy as copy
 use Rattle.rules.specs.Host as host
 use Rattle.rules.specs.Calls as calls
 use Rattle.rules.specs.History as history
-use mathlib.Core.List as list
+
+unfoldable of-lists : ℕ
+unfolding lists._&_ lists.ask lists.count lists.any lists.all lists.keep lists.firstOf lists.has
+of-lists = 0
+
+unfoldable of-octets : ℕ
+unfolding octets.word octets.octets octets.flag octets.number octets.joined octets.ignoreTop octets.over octets.octetString
+of-octets = 0
+
+unfoldable of-units : ℕ
+unfolding units.unitNumber units.unitAt units.threeOctets units.unitOctets units.insert units.ordered units.rising units.once units.without
+of-units = 0
+
+unfoldable of-tables : ℕ
+unfolding tables.records tables.free? tables.blank tables.used tables.someFree tables.matches tables.addressed tables.put tables.clear tables.change
+of-tables = 0
+
+unfoldable of-tables-2 : ℕ
+unfolding tables.written
+of-tables-2 = 0
+
+unfoldable of-layout : ℕ
+unfolding layout.deviceRecord layout.partIs layout.toGroup layout.groupRecord
+of-layout = 0
+
+unfoldable of-frame : ℕ
+unfolding frame.everyTable frame.also frame.nothing frame.changed
+of-frame = 0
+
+unfoldable of-message : ℕ
+unfolding message.dataLength message.messageType message.fields message.payload message.sender message.destination message.response
+of-message = 0
+
+unfoldable of-message-2 : ℕ
+unfolding message.lengthFits message.dataLengthFits message.typeFits message.reads message.reading message.header message.answering message.reply
+of-message-2 = 0
+
+unfoldable of-exists : ℕ
+unfolding exists.admitted exists.hasUnit exists.unitExists exists.mayCommand exists.hasRights exists.groupExists
+of-exists = 0
+
+unfoldable of-sound : ℕ
+unfolding sound.wholeRecords sound.addressFits sound.deviceInRange sound.deviceFits sound.groupFits sound.destinationFits sound.bindFits
+of-sound = 0
+
+unfoldable of-sound-2 : ℕ
+unfolding sound.memberFits sound.fits sound.distinct sound.soundTable sound.sound
+of-sound-2 = 0
+
+unfoldable of-recipients : ℕ
+unfolding recipients.membersOf recipients.bindMatches recipients.reached recipients.bound recipients.recipients
+of-recipients = 0
+
+unfoldable of-payloads : ℕ
+unfolding payloads.bindCommand payloads.groupCommand payloads.command payloads.bindOf payloads.wanted payloads.memberOf payloads.groupNamed
+of-payloads = 0
+
+unfoldable of-commands : ℕ
+unfolding commands.addition commands.removal commands.naming commands.creation commands.smallest commands.newGroup commands.infoHead commands.info
+of-commands = 0
+
+unfoldable of-commands-2 : ℕ
+unfolding commands.groupInfo commands.row commands.rightsFit commands.payloadFits commands.judge commands.onOk commands.done commands.replyPayload
+of-commands-2 = 0
+
+unfoldable of-copy : ℕ
+unfolding copy.copied copy.copyFits copy.copy
+of-copy = 0
+
+unfoldable of-host : ℕ
+unfolding host.settled host.admitting host.admission host.admit host.namesDevice host.releasing host.release
+of-host = 0
+
+unfoldable of-calls : ℕ
+unfolding calls.roomy calls.toMany calls.asking calls.wayTo calls.wayOn calls.way calls.answered calls.handled calls.forwarded calls.follow
+of-calls = 0
+
+unfoldable of-calls-2 : ℕ
+unfolding calls.message
+of-calls-2 = 0
+
+unfoldable of-history : ℕ
+unfolding history.said history.left history.after history.history history.octetsOnly history.granted history.hasPage history.silence history.lines
+of-history = 0
+
+unfoldable of-history-2 : ℕ
+unfolding history.asked history.entries history.stand history.standing history.strikes history.spares history.reaches history.linked history.counted
+of-history-2 = 0
+
+unfoldable of-history-3 : ℕ
+unfolding history.existing history.memberCount history.freeTable history.freeTables
+of-history-3 = 0
+
+unfoldable tables-and-messages : ℕ
+unfolding of-lists of-octets of-units of-tables of-tables-2 of-layout of-frame of-message of-message-2 of-exists of-sound
+tables-and-messages = 0
+
+unfoldable commands-and-calls : ℕ
+unfolding of-sound-2 of-recipients of-payloads of-commands of-commands-2 of-copy
+commands-and-calls = 0
 
 unfoldable pub whole : ℕ
-unfolding list.flatMap lists._&_ lists.ask lists.count lists.any lists.all lists.keep lists.firstOf lists.has octets.word octets.octets octets.flag octets.number octets.joined octets.ignoreTop octets.over octets.octetString units.unitNumber units.unitAt units.threeOctets units.unitOctets units.insert units.ordered units.rising units.without message.source message.sourceUnit message.sender message.addressType message.target message.targetUnit message.appRef message.kind message.interface message.member message.dataLength message.payload message.fields message.destination message.response message.lengthFits message.dataLengthFits message.typeFits message.readOutcome message.readable message.reading message.header message.answering message.reply tables.records tables.free? tables.blank tables.used tables.room? tables.matches tables.addressed tables.put tables.clear tables.change tables.written tables.tables tables.nothing tables.changed exists.admitted exists.hasUnit exists.unitExists exists.mayCommand exists.hasRights exists.groupExists sound.wholeRecords sound.addressFits sound.deviceFits sound.groupFits sound.toGroup sound.boundTo sound.destinationFits sound.bindFits sound.memberFits sound.fits sound.distinct sound.soundTable sound.sound commands.bindCommand commands.groupCommand commands.command commands.bindOf commands.memberOf commands.groupNamed commands.wanted commands.groupRecord commands.smallest commands.newGroup commands.membersOf commands.rightsFit commands.payloadFits commands.verdict commands.judge commands.effect commands.done commands.info commands.groupInfo commands.granting commands.replyPayload recipients.serves recipients.reached recipients.recipients copy.copied copy.copyFits copy.copy host.deviceRecord host.deviceInRange host.admitting host.admit host.releasing host.release calls.roomy calls.many calls.serving calls.wayTo calls.way calls.served calls.forwarded calls.follow calls.message history.said history.left history.after history.history history.octetsOnly history.granted history.bindLine history.memberLine history.bindEntry history.memberEntry history.deviceEntry history.stand history.standing history.bound history.members history.strikes history.spares history.reaches history.linked history.counted history.existing history.memberCount history.freeTable history.freeTables
+unfolding list.flatMap tables-and-messages commands-and-calls of-host of-calls of-calls-2 of-history of-history-2 of-history-3
 whole = 0

@@ -12,7 +12,11 @@ use lib.Seq.{drop-cons}
 use Rattle.rules.specs.Lists.{all, _&_}
 use Rattle.rules.specs.Octets.{octet, word, octets, octetString, flag, number, joined}
 use Rattle.rules.specs.Tables.{Rec, matches, addressed}
-use Rattle.rules.specs.Sound.{toGroup, boundTo}
+use Rattle.words.specs.Names.{flagSet}
+use Rattle.words.specs.declared.DeviceAddress.{DeviceAddress}
+use Rattle.words.specs.declared.GroupAddress.{GroupAddress}
+use Rattle.words.specs.declared.Kind.the-variants.{Binds}
+use Rattle.rules.specs.Layout.{size, partIs, toGroup, boundGroup, boundDevice, bindDestination, toThisGroup, toDevice}
 use Rattle.rules.proofs.Lists.{and-parts, split, same-truth}
 
 -- a record of k octets
@@ -112,11 +116,11 @@ unfolding shaped word
 word-below k i r h = let s = split h .1 in omega (arith, octet-small r i s, octet-small r (i + 1) s)
 
 -- the run that Delete Group looks for is a bind to that group
-pub to-group : (g : ℕ) (b : Rec) → g < 32768 → shaped 8 b ≡ true → matches 5 (octets (joined 1 g)) b ≡ (toGroup b & eqb (boundTo b) g)
-unfolding toGroup boundTo
-to-group g b l h = matches-word 8 5 (joined 1 g) b (omega arith) h ∙ flag-set g (word 5 b) l (word-below 8 5 b h)
+pub to-group : (g : GroupAddress) (b : Rec) → g .0 < 32768 → shaped (size Binds) b ≡ true → toThisGroup g b ≡ (toGroup b & eqb (boundGroup b .0) (g .0))
+unfolding toGroup partIs
+to-group g b l h = matches-word 8 5 (joined flagSet (g .0)) b (omega arith) h ∙ flag-set (g .0) (bindDestination b) l (word-below 8 5 b h)
 
 -- the run that Release looks for is a bind to that device, and to no group of its number
-pub to-device : (d : ℕ) (b : Rec) → d < 32768 → shaped 8 b ≡ true → matches 5 (octets d) b ≡ (not (toGroup b) & eqb (boundTo b) d)
-unfolding toGroup boundTo
-to-device d b l h = matches-word 8 5 d b (omega arith) h ∙ flag-clear d (word 5 b) l (word-below 8 5 b h)
+pub to-device : (d : DeviceAddress) (b : Rec) → d .0 < 32768 → shaped (size Binds) b ≡ true → toDevice d b ≡ (not (toGroup b) & eqb (boundDevice b .0) (d .0))
+unfolding toGroup partIs
+to-device d b l h = matches-word 8 5 (d .0) b (omega arith) h ∙ flag-clear (d .0) (bindDestination b) l (word-below 8 5 b h)

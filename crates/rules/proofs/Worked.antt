@@ -5,11 +5,15 @@ use mathlib.Core.List.{List, [], _∷_, _++_}
 use Prim.Native.Nat.{ℕ}
 use lib.ListN.{length, replicate}
 use Rattle.rules.specs.Octets.{over}
-use Rattle.rules.specs.Tables.{Rec, Lent, lent}
+use Rattle.words.specs.Names.{device}
+use Rattle.words.specs.declared.Kind.{Kind}
+use Rattle.words.specs.declared.Kind.the-variants.{Binds, Members}
+use Rattle.rules.specs.Tables.{Rec}
+use Rattle.rules.specs.Frame.{Lent, lent}
 use Rattle.rules.specs.Calls.{message}
-use Rattle.rules.specs.History.{Call, sends, admits, releases, said, left, after, history, granted, stand, standing, bindEntry, memberEntry, bound, members}
-use Rattle.rules.specs.declared.Outcome.{Outcome}
-use Rattle.rules.specs.declared.Outcome.the-variants.{Forwarded, Nobody}
+use Rattle.rules.specs.History.{Call, sends, admits, releases, said, left, after, history, granted, stand, standing, entries}
+use Rattle.words.specs.declared.Outcome.{Outcome}
+use Rattle.words.specs.declared.Outcome.the-variants.{Forwarded, Nobody}
 use Rattle.rules.proofs.Whole.{whole}
 
 -- what is known at one place of a run: the tables, and the binds and members that stand by history
@@ -49,7 +53,7 @@ worked p c =
     record {
       call = c;
       given = g;
-      place = place L (cond g (stand (bindEntry c) (p .binds)) (p .binds)) (cond g (stand (memberEntry c) (p .group)) (p .group));
+      place = place L (cond g (stand (entries c Binds) (p .binds)) (p .binds)) (cond g (stand (entries c Members) (p .group)) (p .group));
       outcome = message L request reply list .outcome;
       sent = message L request reply list .list;
     }
@@ -61,8 +65,8 @@ Computing p (x ∷ xs) = (worked p (x .call) ≡ x) × Computing (x .place) xs
 -- what docs/HISTORY.md says of a line, after the calls cs
 pub record AsSaid (L : Lent) (cs : List Call) (x : Line) : Type 0 where
   pub answered : granted (x .call) (said (after L cs) (x .call)) ≡ x .given
-  pub binds : bound (history L (x .call ∷ cs)) ≡ x .place .binds
-  pub group : members (history L (x .call ∷ cs)) ≡ x .place .group
+  pub binds : standing Binds (history L (x .call ∷ cs)) ≡ x .place .binds
+  pub group : standing Members (history L (x .call ∷ cs)) ≡ x .place .group
   pub outcome : message (after L (x .call ∷ cs)) request reply list .outcome ≡ x .outcome
   pub sent : message (after L (x .call ∷ cs)) request reply list .list ≡ x .sent
 
@@ -73,17 +77,20 @@ Saying L cs (x ∷ xs) = AsSaid L cs x × Saying L (x .call ∷ cs) xs
 -- the run cs is at this place
 record At (L : Lent) (cs : List Call) (p : Place) : Type 0 where
   tables : after L cs ≡ p .tables
-  binds : bound (history L cs) ≡ p .binds
-  group : members (history L cs) ≡ p .group
+  binds : standing Binds (history L cs) ≡ p .binds
+  group : standing Members (history L cs) ≡ p .group
 
 module _ (L : Lent) where
   step : (cs : List Call) (p : Place) (x : Line) → At L cs p → worked p (x .call) ≡ x → At L (x .call ∷ cs) (x .place)
-  unfolding after history bound members standing
+  unfolding after history standing
   step cs p x a e = record {
     tables = rw (a .tables) (ap (λ (l : Line). l .place .tables) e);
-    binds = rw (a .tables) (ap (λ l. cond (granted (x .call) (said (p .tables) (x .call))) (stand (bindEntry (x .call)) l) l) (a .binds) ∙ ap (λ (l : Line). l .place .binds) e);
-    group = rw (a .tables) (ap (λ l. cond (granted (x .call) (said (p .tables) (x .call))) (stand (memberEntry (x .call)) l) l) (a .group) ∙ ap (λ (l : Line). l .place .group) e);
+    binds = rw (a .tables) (ap (entered Binds) (a .binds) ∙ ap (λ (l : Line). l .place .binds) e);
+    group = rw (a .tables) (ap (entered Members) (a .group) ∙ ap (λ (l : Line). l .place .group) e);
   }
+    where
+      entered : Kind → List Rec → List Rec
+      entered k l = cond (granted (x .call) (said (p .tables) (x .call))) (stand (entries (x .call) k) l) l
 
   saying : (cs : List Call) (p : Place) (xs : List Line) → At L cs p → Computing p xs → Saying L cs xs
   unfolding after
@@ -129,6 +136,10 @@ five = 0x00 ∷ 0x01 ∷ 0x00 ∷ 0x05 ∷ 0x01 ∷ []
 abbrev start : Lent
 start = lent (free 12) (free 16) (free 16) (free 10)
 
+-- .. with these binds, groups and members, and with no group: three devices admitted
+abbrev with-group : List ℕ → List ℕ → Lent
+with-group bs ms = lent three-devices bs S ms
+
 -- a command from 3:01 to a server interface: UID, member, payload
 abbrev gives : ℕ → ℕ → List ℕ → Call
 gives uid number p =
@@ -142,26 +153,26 @@ to-five = 0x00 ∷ 0x05 ∷ 0x01 ∷ []
 
 abbrev lines : List Line
 lines =
-    line (admits 3 1 2) true (place (lent (0x00 ∷ 0x03 ∷ 0x01 ∷ 0x02 ∷ free 8) (free 16) (free 16) (free 10)) [] []) Nobody []
-    ∷ line (admits 4 0 2) true (place (lent two-devices (free 16) (free 16) (free 10)) [] []) Nobody []
-    ∷ line (admits 5 0 1) true (place (lent three-devices (free 16) (free 16) (free 10)) [] []) Nobody []
+    line (admits (device 3) 1 2) true (place (lent (0x00 ∷ 0x03 ∷ 0x01 ∷ 0x02 ∷ free 8) (free 16) (free 16) (free 10)) [] []) Nobody []
+    ∷ line (admits (device 4) 0 2) true (place (lent two-devices (free 16) (free 16) (free 10)) [] []) Nobody []
+    ∷ line (admits (device 5) 0 1) true (place (lent three-devices (free 16) (free 16) (free 10)) [] []) Nobody []
     -- Create Group "S"; Add to Group 4:02 and 5:01
-    ∷ line (gives 0x03 0x01 (0x01 ∷ 0x53 ∷ [])) true (place (lent three-devices (free 16) S (free 10)) [] []) Nobody []
-    ∷ line (gives 0x03 0x03 four) true (place (lent three-devices (free 16) S (four ++ free 5)) [] (four ∷ [])) Nobody []
-    ∷ line (gives 0x03 0x03 five) true (place (lent three-devices (free 16) S (four ++ five)) [] (five ∷ four ∷ [])) Nobody []
+    ∷ line (gives 0x03 0x01 (0x01 ∷ 0x53 ∷ [])) true (place (with-group (free 16) (free 10)) [] []) Nobody []
+    ∷ line (gives 0x03 0x03 four) true (place (with-group (free 16) (four ++ free 5)) [] (four ∷ [])) Nobody []
+    ∷ line (gives 0x03 0x03 five) true (place (with-group (free 16) (four ++ five)) [] (five ∷ four ∷ [])) Nobody []
     -- Add Bind A and B, and B again: 0x02
-    ∷ line (gives 0x02 0x01 A) true (place (lent three-devices (A ++ free 8) S (four ++ five)) (A ∷ []) (five ∷ four ∷ [])) (Forwarded 1) to-four
-    ∷ line (gives 0x02 0x01 B) true (place (lent three-devices (A ++ B) S (four ++ five)) (B ∷ A ∷ []) (five ∷ four ∷ [])) (Forwarded 2) (to-four ++ to-five)
-    ∷ line (gives 0x02 0x01 B) false (place (lent three-devices (A ++ B) S (four ++ five)) (B ∷ A ∷ []) (five ∷ four ∷ [])) (Forwarded 2) (to-four ++ to-five)
+    ∷ line (gives 0x02 0x01 A) true (place (with-group (A ++ free 8) (four ++ five)) (A ∷ []) (five ∷ four ∷ [])) (Forwarded 1) to-four
+    ∷ line (gives 0x02 0x01 B) true (place (with-group (A ++ B) (four ++ five)) (B ∷ A ∷ []) (five ∷ four ∷ [])) (Forwarded 2) (to-four ++ to-five)
+    ∷ line (gives 0x02 0x01 B) false (place (with-group (A ++ B) (four ++ five)) (B ∷ A ∷ []) (five ∷ four ∷ [])) (Forwarded 2) (to-four ++ to-five)
     -- Remove from Group 4:02, Remove Bind by destination D'4
-    ∷ line (gives 0x03 0x04 four) true (place (lent three-devices (A ++ B) S (free 5 ++ five)) (B ∷ A ∷ []) (five ∷ [])) (Forwarded 2) (to-four ++ to-five)
-    ∷ line (gives 0x02 0x05 (0x00 ∷ 0x04 ∷ [])) true (place (lent three-devices (free 8 ++ B) S (free 5 ++ five)) (B ∷ []) (five ∷ [])) (Forwarded 1) to-five
+    ∷ line (gives 0x03 0x04 four) true (place (with-group (A ++ B) (free 5 ++ five)) (B ∷ A ∷ []) (five ∷ [])) (Forwarded 2) (to-four ++ to-five)
+    ∷ line (gives 0x02 0x05 (0x00 ∷ 0x04 ∷ [])) true (place (with-group (free 8 ++ B) (free 5 ++ five)) (B ∷ []) (five ∷ [])) (Forwarded 1) to-five
     -- Release and admit device 5
-    ∷ line (releases 5) true (place (lent two-devices (free 8 ++ B) S (free 10)) (B ∷ []) []) Nobody []
-    ∷ line (admits 5 0 1) true (place (lent three-devices (free 8 ++ B) S (free 10)) (B ∷ []) []) Nobody []
+    ∷ line (releases (device 5)) true (place (lent two-devices (free 8 ++ B) S (free 10)) (B ∷ []) []) Nobody []
+    ∷ line (admits (device 5) 0 1) true (place (with-group (free 8 ++ B) (free 10)) (B ∷ []) []) Nobody []
     -- Delete Group 1, Create Group "S"
     ∷ line (gives 0x03 0x02 (0x00 ∷ 0x01 ∷ [])) true (place (lent three-devices (free 16) (free 16) (free 10)) [] []) Nobody []
-    ∷ line (gives 0x03 0x01 (0x01 ∷ 0x53 ∷ [])) true (place (lent three-devices (free 16) S (free 10)) [] []) Nobody []
+    ∷ line (gives 0x03 0x01 (0x01 ∷ 0x53 ∷ [])) true (place (with-group (free 16) (free 10)) [] []) Nobody []
     ∷ []
 
 line-by-line : Computing (place start [] []) lines
@@ -169,5 +180,5 @@ unfolding whole
 line-by-line = (refl, (refl, (refl, (refl, (refl, (refl, (refl, (refl, (refl, (refl, (refl, (refl, (refl, (refl, (refl, tt)))))))))))))))
 
 pub as-worked : Saying start [] lines
-unfolding after history bound members standing
+unfolding after history standing
 as-worked = saying start [] (place start [] []) lines (record { tables = refl; binds = refl; group = refl }) line-by-line

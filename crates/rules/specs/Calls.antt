@@ -4,67 +4,71 @@ use mathlib.Core.List.{List, [], _∷_}
 use Prim.Native.Nat.{ℕ, _+_, _*_, _/_, max}
 use lib.Dec.{leb}
 use lib.ListN.{length}
+use Rattle.words.specs.Names.{headerLength, longest}
+use Rattle.words.specs.declared.Fields.{Fields}
+use Rattle.words.specs.declared.Code.{Code}
+use Rattle.words.specs.declared.Kind.the-variants.{Devices, Binds as bind-table, Groups, Members}
+use Rattle.words.specs.declared.Command.{Command}
+use Rattle.words.specs.declared.Decoded.{Decoded}
+use Rattle.words.specs.declared.Decoded.the-variants.{Is, NotServed}
+use Rattle.words.specs.declared.Destination.{Destination}
+use Rattle.words.specs.declared.Destination.the-variants.{Concentrator, Binds, Unit, Group}
+use Rattle.words.specs.declared.Outcome.{Outcome}
+use Rattle.words.specs.declared.Outcome.the-variants.{Done, Forwarded, Nobody, NoSource, NoDestination, ResponseToMany, Unsound, NoRoom, NotServed as Eighteen}
+use Rattle.words.specs.declared.Way.{Way}
+use Rattle.words.specs.declared.Way.the-variants.{Refuse, Serve, Forward}
 use Rattle.rules.specs.Lists.{ask, _&_}
 use Rattle.rules.specs.Octets.{over}
 use Rattle.rules.specs.Units.{unitOctets}
-use Rattle.rules.specs.Message.{source, sourceUnit, destination, response, lengthFits, dataLengthFits, typeFits, headerLength, longest, payload, reply}
-use Rattle.rules.specs.Tables.{size, Lent, Tables, tables, changed}
+use Rattle.rules.specs.Tables.{Rec}
+use Rattle.rules.specs.Layout.{size}
+use Rattle.rules.specs.Frame.{Lent, tables, changed}
+use Rattle.rules.specs.Message.{fields, payload, destination, response, reads, reply}
 use Rattle.rules.specs.Exists.{unitExists, groupExists}
 use Rattle.rules.specs.Sound.{sound}
-use Rattle.rules.specs.Commands.{command, done, replyPayload}
 use Rattle.rules.specs.Recipients.{recipients}
-use Rattle.rules.specs.declared.Kind.the-variants.{Binds as bind-table, Members}
-use Rattle.rules.specs.declared.Command.{Command}
-use Rattle.rules.specs.declared.Command.the-variants.{AddBind, RemoveBinds, CreateGroup, DeleteGroup, AddToGroup, RemoveFromGroup, GetGroupInfo, Other}
-use Rattle.rules.specs.declared.Destination.{Destination}
-use Rattle.rules.specs.declared.Destination.the-variants.{Concentrator, Binds, Unit, Group}
-use Rattle.rules.specs.declared.Outcome.{Outcome}
-use Rattle.rules.specs.declared.Outcome.the-variants.{Done, Forwarded, Nobody, WrongLength, WrongDataLength, WrongType, NoSource, NoDestination, ResponseToMany, Unsound, NoRoom, NotServed}
-use Rattle.rules.specs.declared.Way.{Way}
-use Rattle.rules.specs.declared.Way.the-variants.{Refuse, Serve, Forward}
+use Rattle.rules.specs.Payloads.{command}
+use Rattle.rules.specs.Commands.{judge, done, replyPayload}
 
 -- outcome 17: "reply under 500 octets, or recipient list under 3 × max(1, bind records + member records), .. lengths divided down"
-unfoldable pub roomy : Lent → List ℕ → List ℕ → Bool
-roomy L reply list =
+unfoldable pub roomy : List ℕ → List ℕ → List ℕ → List ℕ → Bool
+roomy bs ms reply list =
     leb longest (length reply)
-    & leb (3 * max 1 (length (L .binds) / size bind-table + length (L .members) / size Members)) (length list)
+    & leb (3 * max 1 (length bs / size bind-table + length ms / size Members)) (length list)
 
 -- outcome 15 is for a group and for D'7FFF:U'FF
-unfoldable pub many : Destination → Bool
-many Concentrator = false
-many Binds = true
-many (Unit d u) = false
-many (Group g) = true
+unfoldable pub toMany : Destination → Bool
+toMany Concentrator = false
+toMany Binds = true
+toMany (Unit d u) = false
+toMany (Group g) = true
 
 -- outcome 18
-unfoldable pub serving : Command → Way
-serving AddBind = Serve AddBind
-serving (RemoveBinds from n) = Serve (RemoveBinds from n)
-serving CreateGroup = Serve CreateGroup
-serving DeleteGroup = Serve DeleteGroup
-serving AddToGroup = Serve AddToGroup
-serving RemoveFromGroup = Serve RemoveFromGroup
-serving GetGroupInfo = Serve GetGroupInfo
-serving Other = Refuse NotServed
+unfoldable pub asking : Decoded → Way
+asking (Is k) = Serve k
+asking NotServed = Refuse Eighteen
 
 -- "then 18 for D'0:U'0 or 14 for the rest"; D'7FFF:U'FF always exists
-unfoldable pub wayTo : Tables → Destination → List ℕ → Way
-wayTo T Concentrator m = serving (command m)
-wayTo T Binds m = Forward Binds
-wayTo T (Unit d u) m = ask (unitExists (T .devices) (d .0) u) (Refuse NoDestination) (Forward (Unit d u))
-wayTo T (Group g) m = ask (groupExists (T .groups) (g .0)) (Refuse NoDestination) (Forward (Group g))
+unfoldable pub wayTo : List Rec → List Rec → Destination → Fields → Way
+wayTo ds gs Concentrator f = asking (command f)
+wayTo ds gs Binds f = Forward Binds
+wayTo ds gs (Unit d u) f = ask (unitExists ds d u) (Refuse NoDestination) (Forward (Unit d u))
+wayTo ds gs (Group g) f = ask (groupExists gs g) (Refuse NoDestination) (Forward (Group g))
+
+-- what can be read: "13, 15, then .."
+unfoldable pub wayOn : List Rec → List Rec → Fields → Way
+wayOn ds gs f =
+    ask (unitExists ds (f .source) (f .«source_unit»)) (Refuse NoSource)
+    (ask (not (response f & toMany (destination f))) (Refuse ResponseToMany)
+    (wayTo ds gs (destination f) f))
 
 -- "Order for a message: 17, 16, 10, 11, 12, 13, 15, then .."
 unfoldable pub way : Lent → List ℕ → List ℕ → List ℕ → Way
 way L m reply list =
-    ask (roomy L reply list) (Refuse NoRoom)
+    ask (roomy (L .binds) (L .members) reply list) (Refuse NoRoom)
     (ask (sound L) (Refuse Unsound)
-    (ask (lengthFits m) (Refuse WrongLength)
-    (ask (dataLengthFits m) (Refuse WrongDataLength)
-    (ask (typeFits m) (Refuse WrongType)
-    (ask (unitExists (tables L .devices) (source m) (sourceUnit m)) (Refuse NoSource)
-    (ask (not (response m & many (destination m))) (Refuse ResponseToMany)
-    (wayTo (tables L) (destination m) m)))))))
+    (reads m Refuse
+    (wayOn (tables L Devices) (tables L Groups) (fields m))))
 
 -- what a message answers, and what the tables, the reply and the list then hold
 pub record Answer : Type 0 where
@@ -76,11 +80,15 @@ pub record Answer : Type 0 where
 abbrev pub answer : Outcome → Lent → List ℕ → List ℕ → Answer
 answer o L r l = record { outcome = o; tables = L; reply = r; list = l }
 
--- a command: the tables as it leaves them, and the reply, whose length is returned
-unfoldable pub served : Lent → Command → List ℕ → List ℕ → List ℕ → Answer
-served L k m r l =
-    let p : List ℕ = replyPayload (tables L) (source m) k (payload m) in
-    answer (Done (headerLength + length p)) (changed (done (tables L) (source m) k (payload m)) L) (over (reply m p) r) l
+-- a command with this code: the tables as it leaves them, and the reply, whose length is returned
+unfoldable pub answered : Lent → Command → Fields → List ℕ → Code → List ℕ → List ℕ → Answer
+answered L k f p c r l =
+    let q : List ℕ = replyPayload (tables L) k p c in
+    answer (Done (headerLength + length q)) (changed (done (tables L) k p c) L) (over (reply f q) r) l
+
+-- .. the code being that of its checks
+unfoldable pub handled : Lent → Command → Fields → List ℕ → List ℕ → List ℕ → Answer
+handled L k f p r l = answered L k f p (judge (tables L) (f .source) k p) r l
 
 -- a message to hand on: the recipients, 3 octets each, and their number; outcome 2 where there is none
 unfoldable pub forwarded : List ℕ → Lent → List ℕ → List ℕ → Answer
@@ -89,8 +97,8 @@ forwarded (u ∷ us) L r l = answer (Forwarded (length (u ∷ us))) L r (over (u
 
 unfoldable pub follow : Way → Lent → List ℕ → List ℕ → List ℕ → Answer
 follow (Refuse o) L m r l = answer o L r l
-follow (Serve k) L m r l = served L k m r l
-follow (Forward to) L m r l = forwarded (recipients (tables L) to m) L r l
+follow (Serve k) L m r l = handled L k (fields m) (payload m) r l
+follow (Forward to) L m r l = forwarded (recipients (tables L bind-table) (tables L Members) to (fields m)) L r l
 
 unfoldable pub message : Lent → List ℕ → List ℕ → List ℕ → Answer
 message L m r l = follow (way L m r l) L m r l

@@ -1,23 +1,24 @@
 -- "A copy equals the message but for octets 4 to 6: type 0, device, unit." (document 01, Recipients)
-use mathlib.Core.Bool.{Bool, true, false, cond, not}
+use mathlib.Core.Bool.{Bool, not}
 use mathlib.Core.List.{List, [], _∷_, _++_}
 use Prim.Native.Nat.{ℕ}
 use lib.Dec.{leb, eqb}
 use lib.ListN.{length}
 use lib.Seq.{sets}
+use Rattle.words.specs.Names.{highest, anyUnit}
+use Rattle.words.specs.declared.DeviceAddress.{DeviceAddress}
+use Rattle.words.specs.declared.Outcome.{Outcome}
+use Rattle.words.specs.declared.Outcome.the-variants.{Done, NoCopy}
 use Rattle.rules.specs.Lists.{ask, _&_}
 use Rattle.rules.specs.Octets.{octets, over}
-use Rattle.rules.specs.Names.{highest, anyUnit}
-use Rattle.rules.specs.Message.{lengthFits, dataLengthFits, typeFits}
-use Rattle.rules.specs.declared.Outcome.{Outcome}
-use Rattle.rules.specs.declared.Outcome.the-variants.{Done, WrongLength, WrongDataLength, WrongType, NoCopy}
+use Rattle.rules.specs.Message.{reads}
 
-unfoldable pub copied : List ℕ → ℕ → ℕ → List ℕ
-copied m d u = sets m 3 (octets d ++ u ∷ [])
+unfoldable pub copied : List ℕ → DeviceAddress → ℕ → List ℕ
+copied m d u = sets m 3 (octets (d .0) ++ u ∷ [])
 
 -- outcome 19: "room shorter than the message, device above 0x7FFE or unit 0xFF"
-unfoldable pub copyFits : List ℕ → List ℕ → ℕ → ℕ → Bool
-copyFits m room d u = leb (length m) (length room) & leb d highest & not (eqb u anyUnit)
+unfoldable pub copyFits : List ℕ → List ℕ → DeviceAddress → ℕ → Bool
+copyFits m room d u = leb (length m) (length room) & leb (d .0) highest & not (eqb u anyUnit)
 
 -- what copying answers, and what the room then holds
 pub record CopyAnswer : Type 0 where
@@ -28,10 +29,8 @@ abbrev pub copyAnswer : Outcome → List ℕ → CopyAnswer
 copyAnswer o room = record { outcome = o; room = room }
 
 -- "Copy: 10, 11, 12, 19, else 0."
-unfoldable pub copy : List ℕ → List ℕ → ℕ → ℕ → CopyAnswer
+unfoldable pub copy : List ℕ → List ℕ → DeviceAddress → ℕ → CopyAnswer
 copy m room d u =
-    ask (lengthFits m) (copyAnswer WrongLength room)
-    (ask (dataLengthFits m) (copyAnswer WrongDataLength room)
-    (ask (typeFits m) (copyAnswer WrongType room)
+    reads m (λ o. copyAnswer o room)
     (ask (copyFits m room d u) (copyAnswer NoCopy room)
-    (copyAnswer (Done (length m)) (over (copied m d u) room)))))
+    (copyAnswer (Done (length m)) (over (copied m d u) room)))

@@ -1,30 +1,32 @@
 -- What exists (document 01, Tables): units, groups, rights.
-use mathlib.Core.Bool.{Bool, true, false, cond}
+use mathlib.Core.Bool.{Bool, true, cond}
 use mathlib.Core.List.{List}
 use Prim.Native.Nat.{ℕ}
 use lib.Dec.{eqb, leb}
+use Rattle.words.specs.Names.{concentrator}
+use Rattle.words.specs.declared.DeviceAddress.{DeviceAddress}
+use Rattle.words.specs.declared.GroupAddress.{GroupAddress}
 use Rattle.rules.specs.Lists.{any, _&_}
-use Rattle.rules.specs.Octets.{octet}
-use Rattle.rules.specs.Names.{concentrator}
 use Rattle.rules.specs.Tables.{Rec, used, addressed}
+use Rattle.rules.specs.Layout.{deviceRights, deviceHighest}
 
 -- is the device in the table?
-unfoldable pub admitted : List Rec → ℕ → Bool
-admitted ds d = any (addressed d) (used ds)
+unfoldable pub admitted : List Rec → DeviceAddress → Bool
+admitted ds d = any (addressed (d .0)) (used ds)
 
 -- "An admitted device has units 0 to its highest."
-unfoldable pub hasUnit : ℕ → ℕ → Rec → Bool
-hasUnit d u r = addressed d r & leb u (octet 3 r)
+unfoldable pub hasUnit : DeviceAddress → ℕ → Rec → Bool
+hasUnit d u r = addressed (d .0) r & leb u (deviceHighest r)
 
 -- "D'0000 is the concentrator: never in the table, unit 0 only, rights 1."
-unfoldable pub unitExists : List Rec → ℕ → ℕ → Bool
-unitExists ds d u = cond (eqb d (concentrator .0)) (eqb u 0) (any (hasUnit d u) (used ds))
+unfoldable pub unitExists : List Rec → DeviceAddress → ℕ → Bool
+unitExists ds d u = cond (eqb (d .0) (concentrator .0)) (eqb u 0) (any (hasUnit d u) (used ds))
 
-unfoldable pub mayCommand : ℕ → Rec → Bool
-mayCommand d r = addressed d r & eqb (octet 2 r) 1
+unfoldable pub mayCommand : DeviceAddress → Rec → Bool
+mayCommand d r = addressed (d .0) r & eqb (deviceRights r) 1
 
-unfoldable pub hasRights : List Rec → ℕ → Bool
-hasRights ds d = cond (eqb d (concentrator .0)) true (any (mayCommand d) (used ds))
+unfoldable pub hasRights : List Rec → DeviceAddress → Bool
+hasRights ds d = cond (eqb (d .0) (concentrator .0)) true (any (mayCommand d) (used ds))
 
-unfoldable pub groupExists : List Rec → ℕ → Bool
-groupExists gs g = any (addressed g) (used gs)
+unfoldable pub groupExists : List Rec → GroupAddress → Bool
+groupExists gs g = any (addressed (g .0)) (used gs)

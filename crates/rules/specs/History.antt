@@ -6,32 +6,40 @@ use mathlib.Core.List.{List, [], _∷_, _++_}
 use Prim.Native.Nat.{ℕ, _+_}
 use lib.Dec.{eqb, leb}
 use lib.ListN.{drop}
+use Rattle.words.specs.Names.{concentrator, ok, headerLength}
+use Rattle.words.specs.Outcomes.{numberOf}
+use Rattle.words.specs.declared.DeviceAddress.{DeviceAddress}
+use Rattle.words.specs.declared.GroupAddress.{GroupAddress}
+use Rattle.words.specs.declared.Kind.{Kind}
+use Rattle.words.specs.declared.Kind.the-variants.{Devices, Binds as bind-table, Groups, Members}
+use Rattle.words.specs.declared.Command.{Command}
+use Rattle.words.specs.declared.Command.the-variants.{AddBind, RemoveBinds, CreateGroup, DeleteGroup, AddToGroup, RemoveFromGroup, GetGroupInfo}
+use Rattle.words.specs.declared.Decoded.{Decoded}
+use Rattle.words.specs.declared.Decoded.the-variants.{Is, NotServed}
+use Rattle.words.specs.declared.Destination.the-variants.{Binds}
+use Rattle.words.specs.declared.Fields.{Fields}
+use Rattle.words.specs.declared.Outcome.{Outcome}
 use Rattle.rules.specs.Lists.{count, any, all, keep, has, _&_}
 use Rattle.rules.specs.Octets.{octet, word, octetString}
-use Rattle.rules.specs.Units.{unitAt, rising}
-use Rattle.rules.specs.Names.{concentrator, ok}
-use Rattle.rules.specs.Message.{source, sourceUnit, sender, destination, response, lengthFits, dataLengthFits, typeFits, headerLength, payload}
-use Rattle.rules.specs.Tables.{Rec, records, free?, matches, size, Lent}
-use Rattle.rules.specs.Sound.{wholeRecords, sound, toGroup, boundTo}
-use Rattle.rules.specs.Commands.{command, bindOf, memberOf, groupNamed, wanted}
-use Rattle.rules.specs.Recipients.{serves}
-use Rattle.rules.specs.Host.{deviceRecord, admit, release}
+use Rattle.rules.specs.Units.{rising}
+use Rattle.rules.specs.Tables.{Rec, free?, matches}
+use Rattle.rules.specs.Layout.{deviceAddress, deviceHighest, deviceRecord, bindSource, partIs, toGroup, boundGroup, boundDevice, bindTo}
+use Rattle.rules.specs.Layout.{memberGroup, memberDevice, memberNumber}
+use Rattle.rules.specs.Frame.{Lent, lentOf, everyTable, also, table}
+use Rattle.rules.specs.Message.{fields, payload, sender, destination, response, lengthFits, dataLengthFits, typeFits}
+use Rattle.rules.specs.Sound.{wholeRecords, sound}
+use Rattle.rules.specs.Recipients.{bindMatches}
+use Rattle.rules.specs.Payloads.{command, bindOf, wanted, memberOf, groupNamed}
+use Rattle.rules.specs.Host.{admit, release}
 use Rattle.rules.specs.Calls.{roomy, message, forwarded}
-use Rattle.rules.specs.Outcomes.{numberOf}
-use Rattle.rules.specs.declared.Kind.{Kind}
-use Rattle.rules.specs.declared.Kind.the-variants.{Devices, Binds as bind-table, Groups, Members}
-use Rattle.rules.specs.declared.Command.{Command}
-use Rattle.rules.specs.declared.Command.the-variants.{AddBind, RemoveBinds, CreateGroup, DeleteGroup, AddToGroup, RemoveFromGroup, GetGroupInfo, Other}
-use Rattle.rules.specs.declared.Destination.the-variants.{Binds}
-use Rattle.rules.specs.declared.Outcome.{Outcome}
 
 -- A run
 
 -- a message with the reply and the list that go with it, or a host call
 pub data Call : Type 0 where
   sends : List ℕ → List ℕ → List ℕ → Call
-  admits : ℕ → ℕ → ℕ → Call
-  releases : ℕ → Call
+  admits : DeviceAddress → ℕ → ℕ → Call
+  releases : DeviceAddress → Call
 
 -- what a caller is told: the outcome, and the reply and the list as they come back
 pub record Said : Type 0 where
@@ -84,58 +92,54 @@ pub data Entry : Type 0 where
   adds : Rec → Entry
   withdraws : (Rec → Bool) → Entry
 
--- binds, by command and payload
-unfoldable pub bindLine : Command → List ℕ → Entry
-bindLine AddBind p = adds (bindOf p)
-bindLine (RemoveBinds from n) p = withdraws (matches from (wanted from p))
-bindLine CreateGroup p = silent
-bindLine DeleteGroup p = withdraws (λ b. toGroup b & eqb (boundTo b) (groupNamed p))
-bindLine AddToGroup p = silent
-bindLine RemoveFromGroup p = silent
-bindLine GetGroupInfo p = silent
-bindLine Other p = silent
+-- The sheet has a page for devices, one for binds and one for members; groups have none.
+unfoldable pub hasPage : Kind → Bool
+hasPage Devices = true
+hasPage bind-table = true
+hasPage Groups = false
+hasPage Members = true
 
--- members, by command and payload
-unfoldable pub memberLine : Command → List ℕ → Entry
-memberLine AddBind p = silent
-memberLine (RemoveBinds from n) p = silent
-memberLine CreateGroup p = silent
-memberLine DeleteGroup p = withdraws (λ x. eqb (word 0 x) (groupNamed p))
-memberLine AddToGroup p = adds (memberOf p)
-memberLine RemoveFromGroup p = withdraws (matches 0 (memberOf p))
-memberLine GetGroupInfo p = silent
-memberLine Other p = silent
+-- what is written on each page
+abbrev pub Entries : Type 0
+Entries = Kind → Entry
 
-unfoldable pub bindEntry : Call → Entry
-bindEntry (sends m r l) = bindLine (command m) (payload m)
-bindEntry (admits d rights top) = silent
-bindEntry (releases d) = withdraws (λ b. eqb (word 0 b) d || (not (toGroup b) & eqb (boundTo b) d))
+unfoldable pub silence : Entries
+silence k = silent
 
-unfoldable pub memberEntry : Call → Entry
-memberEntry (sends m r l) = memberLine (command m) (payload m)
-memberEntry (admits d rights top) = silent
-memberEntry (releases d) = withdraws (λ x. eqb (word 2 x) d)
+-- a command, by its payload
+unfoldable pub lines : Command → List ℕ → Entries
+lines AddBind p = also bind-table (adds (bindOf p)) silence
+lines (RemoveBinds q) p = also bind-table (withdraws (partIs q (wanted q p))) silence
+lines CreateGroup p = silence
+lines DeleteGroup p =
+    also Members (withdraws (λ x. eqb (memberGroup x .0) (groupNamed p .0)))
+    (also bind-table (withdraws (λ b. toGroup b & eqb (boundGroup b .0) (groupNamed p .0))) silence)
+lines AddToGroup p = also Members (adds (memberOf p)) silence
+lines RemoveFromGroup p = also Members (withdraws (matches 0 (memberOf p))) silence
+lines GetGroupInfo p = silence
 
-unfoldable pub deviceEntry : Call → Entry
-deviceEntry (sends m r l) = silent
-deviceEntry (admits d rights top) = adds (deviceRecord d rights top)
-deviceEntry (releases d) = withdraws (λ x. eqb (word 0 x) d)
+unfoldable pub asked : Decoded → List ℕ → Entries
+asked (Is k) p = lines k p
+asked NotServed p = silence
+
+-- a call
+unfoldable pub entries : Call → Entries
+entries (sends m r l) = asked (command (fields m)) (payload m)
+entries (admits d rights top) = also Devices (adds (deviceRecord d rights top)) silence
+entries (releases d) =
+    also Devices (withdraws (λ x. eqb (deviceAddress x .0) (d .0)))
+    (also Members (withdraws (λ x. eqb (memberDevice x .0) (d .0)))
+    (also bind-table (withdraws (λ b. eqb (bindSource b .0) (d .0) || (not (toGroup b) & eqb (boundDevice b .0) (d .0)))) silence))
 
 unfoldable pub stand : Entry → List Rec → List Rec
 stand silent l = l
 stand (adds r) l = r ∷ l
 stand (withdraws q) l = keep (λ r. not (q r)) l
 
--- the records added by a granted call and withdrawn by none since
-unfoldable pub standing : (Call → Entry) → List Event → List Rec
-standing f [] = []
-standing f (e ∷ h) = cond (granted (e .call) (e .told)) (stand (f (e .call)) (standing f h)) (standing f h)
-
-unfoldable pub bound : List Event → List Rec
-bound h = standing bindEntry h
-
-unfoldable pub members : List Event → List Rec
-members h = standing memberEntry h
+-- a page: the records added by a granted call and withdrawn by none since
+unfoldable pub standing : Kind → List Event → List Rec
+standing k [] = []
+standing k (e ∷ h) = cond (granted (e .call) (e .told)) (stand (entries (e .call) k) (standing k h)) (standing k h)
 
 -- The same in the customer's own form: a granted call added the record, and no later granted call withdrew it.
 
@@ -144,49 +148,52 @@ strikes silent r = false
 strikes (adds x) r = false
 strikes (withdraws q) r = q r
 
-unfoldable pub spares : (Call → Entry) → Rec → Event → Bool
-spares f r e = not (granted (e .call) (e .told) & strikes (f (e .call)) r)
+unfoldable pub spares : Kind → Rec → Event → Bool
+spares k r e = not (granted (e .call) (e .told) & strikes (entries (e .call) k) r)
 
-pub record Stands (f : Call → Entry) (r : Rec) (h : List Event) : Type 0 where
+pub record Stands (k : Kind) (r : Rec) (h : List Event) : Type 0 where
   pub later : List Event
   pub event : Event
   pub earlier : List Event
   pub whole : h ≡ later ++ event ∷ earlier
   pub answered : granted (event .call) (event .told) ≡ true
-  pub added : f (event .call) ≡ adds r
-  pub kept : all (spares f r) later ≡ true
+  pub added : entries (event .call) k ≡ adds r
+  pub kept : all (spares k r) later ≡ true
 
 -- What is linked and counted
 
 -- a bind names the unit, or a group to which the unit was added
 unfoldable pub reaches : List Rec → ℕ → Rec → Bool
-reaches ms u b = cond (toGroup b) (any (λ x. eqb (word 0 x) (boundTo b) & eqb (unitAt 2 x) u) ms) (eqb (unitAt 5 b) u)
+reaches ms u b =
+    cond (toGroup b) (any (λ x. eqb (memberGroup x .0) (boundGroup b .0) & eqb (memberNumber x) u) ms) (eqb (bindTo b) u)
 
--- is the unit u linked to the sender of m, at m's interface and role?
-unfoldable pub linked : List Event → List ℕ → ℕ → Bool
-linked h m u = any (λ b. serves m b & reaches (members h) u b) (bound h)
+-- is the unit u linked to the sender of a message of these fields, at its interface and role?
+unfoldable pub linked : List Event → Fields → ℕ → Bool
+linked h f u = any (λ b. bindMatches f b & reaches (standing Members h) u b) (standing bind-table h)
 
 -- the additions to the group less those withdrawn
-unfoldable pub counted : List Event → ℕ → ℕ
-counted h g = count (λ x. eqb (word 0 x) g) (members h)
+unfoldable pub counted : List Event → GroupAddress → ℕ
+counted h g = count (λ x. eqb (memberGroup x .0) (g .0)) (standing Members h)
 
 -- a unit of the concentrator, or of a device admitted and not released since
-unfoldable pub existing : List Event → ℕ → ℕ → Bool
-existing h d u = cond (eqb d (concentrator .0)) (eqb u 0) (any (λ x. eqb (word 0 x) d & leb u (octet 3 x)) (standing deviceEntry h))
+unfoldable pub existing : List Event → DeviceAddress → ℕ → Bool
+existing h d u =
+    cond (eqb (d .0) (concentrator .0)) (eqb u 0)
+    (any (λ x. eqb (deviceAddress x .0) (d .0) & leb u (deviceHighest x)) (standing Devices h))
 
 -- a well-formed request from an existing unit to the bind address
 pub record Request (h : List Event) (m : List ℕ) : Type 0 where
   pub length : lengthFits m ≡ true
   pub data-length : dataLengthFits m ≡ true
   pub type : typeFits m ≡ true
-  pub request : response m ≡ false
-  pub sent : existing h (source m) (sourceUnit m) ≡ true
-  pub to-binds : destination m ≡ Binds
+  pub request : response (fields m) ≡ false
+  pub sent : existing h (fields m .source) (fields m .«source_unit») ≡ true
+  pub to-binds : destination (fields m) ≡ Binds
 
 -- "exactly the units .. without the sender, each once, by rising device and unit"
-pub record Exactly (h : List Event) (m us : List ℕ) : Type 0 where
+pub record Exactly (h : List Event) (f : Fields) (us : List ℕ) : Type 0 where
   pub order : rising us ≡ true
-  pub exact : (u : ℕ) → has u us ≡ (not (eqb u (sender m)) & linked h m u)
+  pub exact : (u : ℕ) → has u us ≡ (not (eqb u (sender f)) & linked h f u)
 
 -- the number of members in a reply to Get Group Info: behind the code, the name's length and the name
 unfoldable pub memberCount : Said → ℕ
@@ -196,26 +203,22 @@ memberCount a = let p : List ℕ = drop headerLength (a .reply) in word (2 + oct
 
 -- a table of a size allowed, with every record free
 unfoldable pub freeTable : Kind → List ℕ → Bool
-freeTable k t = wholeRecords k t & all free? (records (size k) t)
+freeTable k t = wholeRecords k t & all free? (table k t)
 
 unfoldable pub freeTables : Lent → Bool
-freeTables L =
-    freeTable Devices (L .devices)
-    & freeTable bind-table (L .binds)
-    & freeTable Groups (L .groups)
-    & freeTable Members (L .members)
+freeTables L = everyTable (λ k. freeTable k (lentOf k L))
 
 -- after this run from these tables
 pub record Holds (L : Lent) (cs : List Call) : Type 0 where
   -- the tables are sound: outcome 16 never occurs
   pub sound : sound (after L cs) ≡ true
   -- a well-formed request goes to exactly the linked units, and nobody else; no octet of the tables changes
-  pub delivered : (m r l us : List ℕ) → Request (history L cs) m → roomy L r l ≡ true → Exactly (history L cs) m us
+  pub delivered : (m r l us : List ℕ) → Request (history L cs) m → roomy (L .binds) (L .members) r l ≡ true → Exactly (history L cs) (fields m) us
       → message (after L cs) m r l ≡ forwarded us (after L cs) r l
   -- there is such a list
-  pub linked-units : (m : List ℕ) → (us : List ℕ) × Exactly (history L cs) m us
+  pub linked-units : (f : Fields) → (us : List ℕ) × Exactly (history L cs) f us
   -- the count of Get Group Info is the history's
-  pub counts : (m r l : List ℕ) → command m ≡ GetGroupInfo → granted (sends m r l) (said (after L cs) (sends m r l)) ≡ true
+  pub counts : (m r l : List ℕ) → command (fields m) ≡ Is GetGroupInfo → granted (sends m r l) (said (after L cs) (sends m r l)) ≡ true
       → memberCount (said (after L cs) (sends m r l)) ≡ counted (history L cs) (groupNamed (payload m))
 
 abbrev pub Condition3 : Type 0

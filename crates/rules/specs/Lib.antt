@@ -1,16 +1,17 @@
--- The paper: every definition that a contract cites, a file a topic, in reading order.
+-- The paper: every definition that a contract cites, a file a topic, in reading order. The words that they use stand in the crate `words`.
 pub mod Lists
 pub mod Octets
 pub mod Units
-pub mod Names
-pub mod Message
 pub mod Tables
+pub mod Layout
+pub mod Frame
+pub mod Message
 pub mod Exists
 pub mod Sound
-pub mod Commands
 pub mod Recipients
+pub mod Payloads
+pub mod Commands
 pub mod Copy
 pub mod Host
 pub mod Calls
-pub mod Outcomes
 pub mod History

@@ -1,29 +1,41 @@
 -- Recipients (document 01, Recipients): who gets a message of each kind of destination.
-use mathlib.Core.Bool.{Bool, true, false, cond}
-use mathlib.Core.List.{List, [], _∷_, flatMap}
+use mathlib.Core.Bool.{Bool, cond}
+use mathlib.Core.List.{List, [], _∷_, map, flatMap}
 use Prim.Native.Nat.{ℕ}
 use lib.Dec.{eqb}
+use Rattle.words.specs.declared.Fields.{Fields}
+use Rattle.words.specs.declared.GroupAddress.{GroupAddress}
+use Rattle.words.specs.declared.Destination.{Destination}
+use Rattle.words.specs.declared.Destination.the-variants.{Concentrator, Binds, Unit, Group}
 use Rattle.rules.specs.Lists.{keep, _&_}
-use Rattle.rules.specs.Octets.{octet, word}
-use Rattle.rules.specs.Units.{unitNumber, unitAt, ordered, without}
-use Rattle.rules.specs.Message.{source, sourceUnit, sender, interface}
-use Rattle.rules.specs.Tables.{Rec, used, Tables}
-use Rattle.rules.specs.Sound.{toGroup, boundTo}
-use Rattle.rules.specs.Commands.{membersOf}
-use Rattle.rules.specs.declared.Destination.{Destination}
-use Rattle.rules.specs.declared.Destination.the-variants.{Concentrator, Binds, Unit, Group}
+use Rattle.rules.specs.Units.{unitNumber, ordered, without}
+use Rattle.rules.specs.Message.{sender}
+use Rattle.rules.specs.Tables.{Rec, used}
+use Rattle.rules.specs.Layout.{bindSource, bindSourceUnit, bindUid, bindRole, toGroup, boundGroup, bindTo, memberNumber, inGroup}
 
--- "binds whose source device, source unit, UID and interface type equal the message's"
-unfoldable pub serves : List ℕ → Rec → Bool
-serves m b = eqb (word 0 b) (source m) & eqb (octet 2 b) (sourceUnit m) & eqb (word 3 b) (interface m)
+-- the units of a group's members
+unfoldable pub membersOf : List Rec → GroupAddress → List ℕ
+membersOf ms g = map memberNumber (keep (inGroup g) (used ms))
+
+-- does the bind match the request? "binds whose source device, source unit, UID and interface type equal the message's"
+unfoldable pub bindMatches : Fields → Rec → Bool
+bindMatches f b =
+    eqb (bindSource b .0) (f .source .0)
+    & eqb (bindSourceUnit b) (f .«source_unit»)
+    & eqb (bindUid b) (f .uid)
+    & eqb (bindRole b) (f .«interface_type»)
 
 -- "the named unit or the group's members"; the destination unit of a group bind "plays no part in delivery"
 unfoldable pub reached : List Rec → Rec → List ℕ
-reached ms b = cond (toGroup b) (membersOf ms (boundTo b)) (unitAt 5 b ∷ [])
+reached ms b = cond (toGroup b) (membersOf ms (boundGroup b)) (bindTo b ∷ [])
 
--- who gets the message m of this destination
-unfoldable pub recipients : Tables → Destination → List ℕ → List ℕ
-recipients T Concentrator m = []
-recipients T Binds m = ordered (without (sender m) (flatMap (reached (T .members)) (keep (serves m) (used (T .binds)))))
-recipients T (Unit d u) m = unitNumber (d .0) u ∷ []
-recipients T (Group g) m = ordered (without (sender m) (membersOf (T .members) (g .0)))
+-- whom the binds reach that match
+unfoldable pub bound : List Rec → List Rec → Fields → List ℕ
+bound bs ms f = flatMap (reached ms) (keep (bindMatches f) (used bs))
+
+-- who gets a message of these fields and this destination
+unfoldable pub recipients : List Rec → List Rec → Destination → Fields → List ℕ
+recipients bs ms Concentrator f = []
+recipients bs ms Binds f = ordered (without (sender f) (bound bs ms f))
+recipients bs ms (Unit d u) f = unitNumber d u ∷ []
+recipients bs ms (Group g) f = ordered (without (sender f) (membersOf ms g))

@@ -1,8 +1,10 @@
 -- The response codes and the special addresses, named once with their type (document 01, Tables), and the numbers of interfaces and commands.
+use mathlib.Core.List.{List, [], _∷_}
 use Prim.Native.Nat.{ℕ}
-use Rattle.rules.specs.declared.Code.{Code}
-use Rattle.rules.specs.declared.DeviceAddress.{DeviceAddress}
-use Rattle.rules.specs.declared.GroupAddress.{GroupAddress}
+use Rattle.words.specs.declared.Code.{Code}
+use Rattle.words.specs.declared.Fields.{Fields}
+use Rattle.words.specs.declared.DeviceAddress.{DeviceAddress}
+use Rattle.words.specs.declared.GroupAddress.{GroupAddress}
 
 -- document 003, Table 25
 
@@ -31,7 +33,7 @@ group n = record { 0 = n }
 
 -- D'0000
 abbrev pub concentrator : DeviceAddress
-concentrator = device 0
+concentrator = device 0x0000
 
 -- D'7FFF, the bind address with unit 0xFF
 abbrev pub bindAddress : DeviceAddress
@@ -44,14 +46,50 @@ lowest = 0x0001
 abbrev pub highest : ℕ
 highest = 0x7FFE
 
--- the unit and the UID that are no unit's and no interface's
+-- the highest that a unit may have, and the one that is no unit's
+abbrev pub highestUnit : ℕ
+highestUnit = 254
+
 abbrev pub anyUnit : ℕ
 anyUnit = 0xFF
 
+-- the message (document 003, 7): octets before the payload, where the payload begins as the paper counts, and the most that there are
+
+abbrev pub headerLength : ℕ
+headerLength = 15
+
+abbrev pub payloadPlace : ℕ
+payloadPlace = 16
+
+abbrev pub longest : ℕ
+longest = 500
+
+-- a flag that is set: a group's address, a server interface
+abbrev pub flagSet : ℕ
+flagSet = 1
+
+-- message types: command, command that asks a response, the response to either; the last of all
+
+abbrev pub commandType : ℕ
+commandType = 0x01
+
+abbrev pub askingType : ℕ
+askingType = 0x02
+
+abbrev pub responseType : ℕ
+responseType = 0x03
+
+abbrev pub lastType : ℕ
+lastType = 0x10
+
+-- "Response types are 0x03, 0x05, 0x08, 0x0A, 0x0D, 0x10; the other ten are requests."
+abbrev pub responseTypes : List ℕ
+responseTypes = 0x03 ∷ 0x05 ∷ 0x08 ∷ 0x0A ∷ 0x0D ∷ 0x10 ∷ []
+
+-- interface UIDs (document 000, Table 1), and the one that is no interface's
+
 abbrev pub anyInterface : ℕ
 anyInterface = 0x7FFF
-
--- interface UIDs (document 000, Table 1)
 
 abbrev pub bindManagement : ℕ
 bindManagement = 0x0002
@@ -95,3 +133,22 @@ removeFromGroup = 0x04
 
 abbrev pub getGroupInfo : ℕ
 getGroupInfo = 0x05
+
+-- what reading a refused message gives: every field 0
+
+abbrev pub noFields : Fields
+noFields =
+    record {
+      source = concentrator;
+      «source_unit» = 0;
+      «address_type» = 0;
+      destination = 0;
+      «destination_unit» = 0;
+      «app_ref» = 0;
+      «message_type» = 0;
+      «interface_type» = 0;
+      uid = 0;
+      member = 0;
+      «data_length» = 0;
+      payload = 0;
+    }

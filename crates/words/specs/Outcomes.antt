@@ -1,8 +1,9 @@
 -- The outcomes (document 01, Outcomes): the paper's number of each, and the count or length that goes with it.
-use mathlib.Core.Bool.{cond}
 use Prim.Native.Nat.{ℕ}
-use Rattle.rules.specs.declared.Outcome.{Outcome}
-use Rattle.rules.specs.declared.Outcome.the-variants.{Done, Forwarded, Nobody, WrongLength, WrongDataLength, WrongType, NoSource, NoDestination, ResponseToMany, Unsound, NoRoom, NotServed, NoCopy, OutOfRange, AlreadyAdmitted, NoFreeRecord, NotAdmitted}
+use Rattle.words.specs.declared.Outcome.{Outcome}
+use Rattle.words.specs.declared.Outcome.the-variants.{Done, Forwarded, Nobody, WrongLength, WrongDataLength, WrongType, NoSource, NoDestination}
+use Rattle.words.specs.declared.Outcome.the-variants.{ResponseToMany, Unsound, NoRoom, NotServed, NoCopy, OutOfRange, AlreadyAdmitted}
+use Rattle.words.specs.declared.Outcome.the-variants.{NoFreeRecord, NotAdmitted}
 
 abbrev pub numberOf : Outcome → ℕ
 numberOf (Done n) = 0

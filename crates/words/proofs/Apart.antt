@@ -3,9 +3,11 @@ use mathlib.Core.Path.{_≡_, refl, sym, ap₂, _∙_}
 use mathlib.Core.Bool.{cond}
 use Prim.Native.Nat.{ℕ}
 use lib.Dec.{eqb}
-use Rattle.rules.specs.Outcomes.{numberOf, valueOf}
-use Rattle.rules.specs.declared.Outcome.{Outcome}
-use Rattle.rules.specs.declared.Outcome.the-variants.{Done, Forwarded, Nobody, WrongLength, WrongDataLength, WrongType, NoSource, NoDestination, ResponseToMany, Unsound, NoRoom, NotServed, NoCopy, OutOfRange, AlreadyAdmitted, NoFreeRecord, NotAdmitted}
+use Rattle.words.specs.Outcomes.{numberOf, valueOf}
+use Rattle.words.specs.declared.Outcome.{Outcome}
+use Rattle.words.specs.declared.Outcome.the-variants.{Done, Forwarded, Nobody, WrongLength, WrongDataLength, WrongType, NoSource, NoDestination}
+use Rattle.words.specs.declared.Outcome.the-variants.{ResponseToMany, Unsound, NoRoom, NotServed, NoCopy, OutOfRange, AlreadyAdmitted}
+use Rattle.words.specs.declared.Outcome.the-variants.{NoFreeRecord, NotAdmitted}
 
 -- the outcome with this number and value
 abbrev readBack : ℕ → ℕ → Outcome

@@ -1,0 +1,221 @@
+-- Every command answered 0x00 changes the tables in order, and changes them as the history's entries say.
+use mathlib.Core.Path.{_≡_, refl, sym, ap, _∙_}
+use mathlib.Core.Bool.{Bool, true, false, false≢true, cond, not}
+use mathlib.Core.List.{List}
+use Prim.Native.Nat.{ℕ, _+_, _*_, _≤_, _<_}
+use native.Mathlib.Omega.{arith}
+use borrow.Author.Tests.{leb-true, eqb-true, eq-eqb, not-true}
+use lib.ListN.{length, take}
+use lib.Seq.{take-all}
+use Rattle.words.specs.Names.{code, ok, notAuthorized, invalidArgument, notEnoughResources}
+use Rattle.words.specs.declared.Code.{Code}
+use Rattle.words.specs.declared.DeviceAddress.{DeviceAddress}
+use Rattle.words.specs.declared.GroupAddress.{GroupAddress}
+use Rattle.words.specs.declared.Command.{Command}
+use Rattle.words.specs.declared.Command.the-variants.{AddBind, RemoveBinds, CreateGroup, DeleteGroup, AddToGroup, RemoveFromGroup, GetGroupInfo}
+use Rattle.words.specs.declared.Kind.{Kind}
+use Rattle.words.specs.declared.Kind.the-variants.{Devices, Binds, Groups, Members}
+use Rattle.rules.specs.Lists.{any, ask}
+use Rattle.rules.specs.Octets.{octet, octets, octetString}
+use Rattle.rules.specs.Tables.{Rec, used, someFree, matches, addressed, Change, none, store, wipe, change}
+use Rattle.rules.specs.Layout.{size, key, longestName, memberGroup, boundGroup, groupRecord, toThisGroup, inGroup}
+use Rattle.rules.specs.Frame.{Lent, Tables, tables, also, Effect, nothing, only}
+use Rattle.rules.specs.Exists.{groupExists}
+use Rattle.rules.specs.Sound.{wholeRecords, fits, sound}
+use Rattle.rules.specs.Payloads.{bindOf, memberOf, groupNamed}
+use Rattle.rules.specs.Commands.{addition, naming, creation, newGroup, row, payloadFits, judge}
+use Rattle.rules.specs.History.{Entry, Entries, hasPage, silence, lines}
+use Rattle.rules.proofs.Lists.{never, split, join}
+use Rattle.rules.proofs.Frames.{also-all, also-both}
+use Rattle.rules.proofs.Records.{length-records}
+use Rattle.rules.proofs.Words.{shaped, addressed-word, to-group, apart}
+use Rattle.rules.proofs.Changes.{Storable, New, spares}
+use Rattle.rules.proofs.Distinct.{lone}
+use Rattle.rules.proofs.Fresh.{new-low, new-high, new-fresh}
+use Rattle.rules.proofs.Kept.{Sane, InOrder, Ok, order-none, order-wipe, whole-at, bind-kept, member-kept, all-kept, ok-nothing}
+use Rattle.rules.proofs.Standing.{Says, says-nothing, says-added, says-withdrawn}
+use Rattle.rules.proofs.Stored.{Stored, bind-stored, member-stored, named-small, group-stored, group-meets}
+
+-- a check that a command answered 0x00 passed
+pub pass : {b : Bool} {c rest : Code} → (c ≡ ok → ⊥) → ask b c rest ≡ ok → (b ≡ true) × (rest ≡ ok)
+unfolding ask
+pass {b} {c} {rest} n h = step b h
+  where
+    step : (b : Bool) → cond b rest c ≡ ok → (b ≡ true) × (rest ≡ ok)
+    step true h = (refl, h)
+    step false h = absurd (n h)
+
+-- no other code is 0x00
+not-ok : (n : ℕ) → (n ≡ 0 → ⊥) → code n ≡ ok → ⊥
+not-ok n z e = z (ap (λ (c : Code). c .0) e)
+
+invalid : invalidArgument ≡ ok → ⊥
+invalid = not-ok 0x02 (λ z. omega arith)
+
+full : notEnoughResources ≡ ok → ⊥
+full = not-ok 0xFE (λ z. omega arith)
+
+unauthorized : notAuthorized ≡ ok → ⊥
+unauthorized = not-ok 0x01 (λ z. omega arith)
+
+-- What a call does is what the history says of it
+
+-- on every page that the sheet has
+pub record Told (x : Effect) (e : Entries) : Type 0 where
+  pub page : (k : Kind) → hasPage k ≡ true → Says (size k) (x k) (e k)
+
+pub told-nothing : Told nothing silence
+unfolding nothing silence
+told-nothing = record { page = λ k h. says-nothing }
+
+-- one more table and its line
+pub told-also : (k : Kind) {c : Change} {a : Entry} {x : Effect} {e : Entries} → Says (size k) c a → Told x e → Told (also k c x) (also k a e)
+told-also k {c} {a} {x} {e} s t =
+    record { page = also-both (λ j d b. hasPage j ≡ true → Says (size j) d b) k c a x e (λ h. s) (t .page) }
+
+-- one more table that has no page
+pub told-apart : (k : Kind) (c : Change) {x : Effect} {e : Entries} → hasPage k ≡ false → Told x e → Told (also k c x) e
+told-apart k c {x} {e} n t =
+    record { page = also-all (λ j d. hasPage j ≡ true → Says (size j) d (e j)) k c x (λ h. absurd (false≢true (sym n ∙ h))) (t .page) }
+
+-- Changes in order
+
+-- where no device and no group goes
+pub ok-adding : (L : Lent) (x : Effect) → ((k : Kind) → InOrder k L (x k)) → ((r : Rec) → spares (x Devices) r ≡ true)
+    → ((r : Rec) → spares (x Groups) r ≡ true)
+    → Ok L x
+ok-adding L x o d g = record {
+  order = o;
+  kept = λ k r s w h. all-kept (x Devices) (x Groups) (tables L Devices) (tables L Groups) (o Devices .room) (o Groups .room) d g k r h;
+}
+
+-- one table changes, in order
+pub orders-only : (k : Kind) (L : Lent) (c : Change) → InOrder k L c → (j : Kind) → InOrder j L (only k c j)
+unfolding nothing
+orders-only k L c o = also-all (λ j x. InOrder j L x) k c nothing o (λ j. order-none j L)
+
+-- .. and besides others
+pub orders-wipe : (k : Kind) (L : Lent) (q : Rec → Bool) (x : Effect) → ((j : Kind) → InOrder j L (x j)) → (j : Kind) → InOrder j L (also k (wipe q) x j)
+orders-wipe k L q x o = also-all (λ j c. InOrder j L c) k (wipe q) x (order-wipe k L q) o
+
+-- a record is stored where none begins with its key: of a device or a group its address, of a bind or a member the whole
+pub order-store : (k : Kind) (L : Lent) (r : Rec) (w : List ℕ) → take (key k) r ≡ w → someFree (tables L k) ≡ true → Stored (size k) r
+    → fits k (tables L Devices) (tables L Groups) r ≡ true → any (matches 0 w) (used (tables L k)) ≡ false → InOrder k L (store r)
+unfolding Storable New lone
+order-store k L r w e f s m a = record { room = (f, s .used); shape = s .shape; meets = m; alone = rw (e, a) }
+
+-- the checks of Add Bind and Add to Group: a record that is stored whole and must not be there
+order-added : (k : Kind) (L : Lent) (r : Rec) → key k ≡ size k → Stored (size k) r
+    → ask (fits k (tables L Devices) (tables L Groups) r) invalidArgument (addition r (tables L k)) ≡ ok → InOrder k L (store r)
+unfolding shaped addition
+order-added k L r e s v =
+    let a = pass invalid v in
+    let b = pass invalid a.1 in
+    let c = pass full b.1 in
+    let n = eqb-true (length r) (size k) (split (s .shape) .0) in
+    order-store k L r r (rw e (take-all (size k) r (omega arith))) c.0 s a.0 (not-true _ b.0)
+
+-- Each command
+
+-- what is known of a command answered 0x00
+pub record Granted (L : Lent) (k : Command) (p : List ℕ) : Type 0 where
+  pub ok : Ok L (row k .effect (tables L) p)
+  pub told : Told (row k .effect (tables L) p) (lines k p)
+
+module _ (L : Lent) (p : List ℕ) (o : octetString p ≡ true) where
+  ok-binds : (c : Change) → InOrder Binds L c → Ok L (only Binds c)
+  unfolding spares nothing also
+  ok-binds c i = ok-adding L (only Binds c) (orders-only Binds L c i) (λ r. refl) (λ r. refl)
+
+  ok-members : (c : Change) → InOrder Members L c → Ok L (only Members c)
+  unfolding spares nothing also
+  ok-members c i = ok-adding L (only Members c) (orders-only Members L c i) (λ r. refl) (λ r. refl)
+
+  few-groups : Sane L → length (tables L Groups) ≤ 16
+  unfolding wholeRecords
+  few-groups S = omega (arith, length-records 16 (L .groups), leb-true (length (L .groups)) (16 * 16) (split (whole-at L (S .sound) Groups) .1))
+
+  ok-create : Sane L → length p ≡ 1 + octet 0 p → creation p (tables L Groups) ≡ ok
+      → Ok L (only Groups (store (groupRecord (newGroup (tables L Groups)) p)))
+  unfolding creation spares nothing also fits groupRecord octets groupExists addressed
+  ok-create S long v =
+      let a = pass full v in
+      let b = pass full a.1 in
+      let g : GroupAddress = newGroup (tables L Groups) in
+      let low : 1 ≤ g .0 = new-low (tables L Groups) in
+      let high : g .0 ≤ 32766 = omega (arith, new-high (tables L Groups), few-groups S) in
+      let name : octet 0 p ≤ longestName = leb-true (octet 0 p) longestName a.0 in
+      let new : InOrder Groups L (store (groupRecord g p)) =
+      order-store Groups L (groupRecord g p) (octets (g .0)) (group-key g) b.0 (group-stored g p high (omega arith) o) (group-meets g p low high long name)
+      (new-fresh (tables L Groups)) in
+      ok-adding L _ (orders-only Groups L _ new) (λ r. refl) (λ r. refl)
+    where
+      group-key : (g : GroupAddress) → take (key Groups) (groupRecord g p) ≡ octets (g .0)
+      group-key g = refl
+
+  -- Delete Group
+
+  abbrev g : GroupAddress
+  g = groupNamed p
+
+  small : g .0 < 32768
+  small = named-small p o
+
+  abbrev deletes : Effect
+  deletes = also Groups (wipe (addressed (g .0))) (also Members (wipe (inGroup g)) (only Binds (wipe (toThisGroup g))))
+
+  ok-delete : Ok L deletes
+  unfolding nothing also spares fits Storable
+  ok-delete = record {
+    order = orders-wipe Groups L _ _ (orders-wipe Members L _ _ (orders-only Binds L _ (order-wipe Binds L _)));
+    kept = kept;
+  }
+    where
+      kept : (k : Kind) (r : Rec) → shaped (size k) r ≡ true → spares (deletes k) r ≡ true
+          → fits k (tables L Devices) (tables L Groups) r ≡ true
+          → fits k (change none (tables L Devices)) (change (wipe (addressed (g .0))) (tables L Groups)) r ≡ true
+      kept Devices r s w h = h
+      kept Binds r s w h =
+          bind-kept none (wipe (addressed (g .0))) (tables L Devices) (tables L Groups) tt tt r (λ x e. refl) (λ t x e. refl)
+          (λ t x e. apart (boundGroup r .0) (g .0) x (λ z. never _ w (to-group g r small s ∙ join t (eq-eqb (boundGroup r .0) (g .0) z))) e) h
+      kept Groups r s w h = h
+      kept Members r s w h =
+          member-kept none (wipe (addressed (g .0))) (tables L Devices) (tables L Groups) tt tt r (λ x e. refl)
+          (λ x e. apart (memberGroup r .0) (g .0) x
+          (λ z. never _ w (addressed-word (size Members) (g .0) r (omega arith) s ∙ eq-eqb (memberGroup r .0) (g .0) z)) e) h
+
+  told-delete : Told deletes (lines DeleteGroup p)
+  unfolding lines hasPage
+  told-delete =
+      told-apart Groups _ refl
+      (told-also Members (says-withdrawn (λ r s. addressed-word (size Members) (g .0) r (omega arith) s))
+      (told-also Binds (says-withdrawn (λ b s. to-group g b small s)) told-nothing))
+
+  granted-by : (k : Command) → Sane L → length p ≡ row k .length p → row k .verdict (tables L) p ≡ ok → Granted L k p
+  unfolding row lines fits silence hasPage
+  granted-by AddBind S l v =
+      record { ok = ok-binds _ (order-added Binds L (bindOf p) refl (bind-stored p l o) v); told = told-also Binds says-added told-nothing }
+  granted-by (RemoveBinds q) S l v =
+      record { ok = ok-binds _ (order-wipe Binds L _); told = told-also Binds (says-withdrawn (λ r s. refl)) told-nothing }
+  granted-by CreateGroup S l v =
+      record { ok = ok-create S l v; told = told-apart Groups _ refl told-nothing }
+  granted-by DeleteGroup S l v =
+      record { ok = ok-delete; told = told-delete }
+  granted-by AddToGroup S l v =
+      record { ok = ok-members _ (order-added Members L (memberOf p) refl (member-stored p l o) v); told = told-also Members says-added told-nothing }
+  granted-by RemoveFromGroup S l v =
+      record { ok = ok-members _ (order-wipe Members L _); told = told-also Members (says-withdrawn (λ r s. refl)) told-nothing }
+  granted-by GetGroupInfo S l v =
+      record { ok = ok-nothing L; told = told-nothing }
+
+  pub granted-command : (s : DeviceAddress) (k : Command) → Sane L → judge (tables L) s k p ≡ ok → Granted L k p
+  unfolding judge payloadFits
+  granted-command s k S j =
+      let a = pass unauthorized j in
+      let b = pass invalid a.1 in
+      granted-by k S (eqb-true (length p) (row k .length p) b.0) b.1
+
+-- Get Group Info is answered 0x00 only of a group that exists
+pub info-granted : (T : Tables) (s : DeviceAddress) (p : List ℕ) → judge T s GetGroupInfo p ≡ ok → groupExists (T Groups) (groupNamed p) ≡ true
+unfolding judge row naming
+info-granted T s p j = pass invalid (pass invalid (pass unauthorized j .1) .1) .0

@@ -1,0 +1,70 @@
+-- All lent tables as one frame: one of them by its kind, and what a call does to each. A further table is a further line here, and no command knows.
+use mathlib.Core.Bool.{Bool, cond}
+use mathlib.Core.List.{List}
+use Prim.Native.Nat.{ℕ}
+use lib.Dec.{eqb}
+use Rattle.words.specs.declared.Kind.{Kind}
+use Rattle.words.specs.declared.Kind.the-variants.{Devices, Binds, Groups, Members}
+use Rattle.rules.specs.Lists.{_&_}
+use Rattle.rules.specs.Tables.{Rec, records, Change, none, written}
+use Rattle.rules.specs.Layout.{size}
+
+-- the tables as their caller lends them
+pub record Lent : Type 0 where
+  pub devices : List ℕ
+  pub binds : List ℕ
+  pub groups : List ℕ
+  pub members : List ℕ
+
+abbrev pub lent : List ℕ → List ℕ → List ℕ → List ℕ → Lent
+lent ds bs gs ms = record { devices = ds; binds = bs; groups = gs; members = ms }
+
+-- one of them
+abbrev pub lentOf : Kind → Lent → List ℕ
+lentOf Devices L = L .devices
+lentOf Binds L = L .binds
+lentOf Groups L = L .groups
+lentOf Members L = L .members
+
+-- each of them, made anew
+abbrev pub each : (Kind → List ℕ → List ℕ) → Lent → Lent
+each f L = lent (f Devices (L .devices)) (f Binds (L .binds)) (f Groups (L .groups)) (f Members (L .members))
+
+-- does it hold of every table?
+unfoldable pub everyTable : (Kind → Bool) → Bool
+everyTable p = p Devices & p Binds & p Groups & p Members
+
+-- their order as arguments, which tells two kinds apart
+abbrev pub place : Kind → ℕ
+place Devices = 0
+place Binds = 1
+place Groups = 2
+place Members = 3
+
+-- a for the table k, and for the others what x has
+unfoldable pub also : {A : Type 0} → Kind → A → (Kind → A) → Kind → A
+also k a x j = cond (eqb (place j) (place k)) a (x j)
+
+-- the octets of one table as its records
+abbrev pub table : Kind → List ℕ → List Rec
+table k t = records (size k) t
+
+-- .. and of all
+abbrev pub Tables : Type 0
+Tables = Kind → List Rec
+
+abbrev pub tables : Lent → Tables
+tables L k = table k (lentOf k L)
+
+-- what a call does to each table
+abbrev pub Effect : Type 0
+Effect = Kind → Change
+
+unfoldable pub nothing : Effect
+nothing k = none
+
+abbrev pub only : Kind → Change → Effect
+only k c = also k c nothing
+
+unfoldable pub changed : Effect → Lent → Lent
+changed x L = each (λ k. written (size k) (x k)) L

@@ -1,0 +1,176 @@
+-- The records (document 01, Tables): how many octets each has, how many there may be, where its fields stand, and how it is built from them.
+-- No other file knows the place of a field.
+use mathlib.Core.Bool.{Bool}
+use mathlib.Core.List.{List, [], _∷_, _++_}
+use Prim.Native.Nat.{ℕ, _+_, _-_, _*_}
+use lib.Dec.{eqb}
+use lib.ListN.{length, take, drop, replicate}
+use Rattle.words.specs.Names.{device, group, flagSet}
+use Rattle.words.specs.declared.DeviceAddress.{DeviceAddress}
+use Rattle.words.specs.declared.GroupAddress.{GroupAddress}
+use Rattle.words.specs.declared.Kind.{Kind}
+use Rattle.words.specs.declared.Kind.the-variants.{Devices, Binds, Groups, Members}
+use Rattle.words.specs.declared.BindPart.{BindPart}
+use Rattle.words.specs.declared.BindPart.the-variants.{Whole, Source, SourceUnit, Destination, DestinationUnit}
+use Rattle.rules.specs.Octets.{octet, word, octets, flag, number, joined}
+use Rattle.rules.specs.Units.{unitAt}
+use Rattle.rules.specs.Tables.{Rec, matches, addressed}
+
+-- the octets of a record
+abbrev pub size : Kind → ℕ
+size Devices = 4
+size Binds = 8
+size Groups = 16
+size Members = 5
+
+-- how many records there may be
+abbrev pub most : Kind → ℕ
+most Devices = 64
+most Binds = 64
+most Groups = 16
+most Members = 128
+
+-- the octets of a table at full size
+abbrev pub full : Kind → ℕ
+full k = most k * size k
+
+-- the octets of an address
+abbrev pub addressLength : ℕ
+addressLength = 2
+
+-- how many octets must not be there twice: the address in devices and groups, the record in binds and members
+abbrev pub key : Kind → ℕ
+key Devices = addressLength
+key Binds = size Binds
+key Groups = addressLength
+key Members = size Members
+
+-- Device: address 2, rights 1, highest unit 1
+
+abbrev pub deviceAddress : Rec → DeviceAddress
+deviceAddress r = device (word 0 r)
+
+abbrev pub deviceRights : Rec → ℕ
+deviceRights r = octet 2 r
+
+abbrev pub deviceHighest : Rec → ℕ
+deviceHighest r = octet 3 r
+
+unfoldable pub deviceRecord : DeviceAddress → ℕ → ℕ → Rec
+deviceRecord d rights top = octets (d .0) ++ rights ∷ top ∷ []
+
+-- Bind: source device 2, source unit 1, destination interface type and UID 2, destination address type and address 2, destination unit 1
+
+-- the parts of a bind: where each begins, and how many octets it has
+abbrev pub partStart : BindPart → ℕ
+partStart Whole = 0
+partStart Source = 0
+partStart SourceUnit = 0
+partStart Destination = 5
+partStart DestinationUnit = 5
+
+abbrev pub partLength : BindPart → ℕ
+partLength Whole = size Binds
+partLength Source = addressLength
+partLength SourceUnit = addressLength + 1
+partLength Destination = addressLength
+partLength DestinationUnit = addressLength + 1
+
+-- is this part of the bind these octets?
+unfoldable pub partIs : BindPart → List ℕ → Rec → Bool
+partIs q want b = matches (partStart q) want b
+
+abbrev pub bindSource : Rec → DeviceAddress
+bindSource b = device (word 0 b)
+
+abbrev pub bindSourceUnit : Rec → ℕ
+bindSourceUnit b = octet 2 b
+
+-- the source as one number
+abbrev pub bindFrom : Rec → ℕ
+bindFrom b = unitAt 0 b
+
+-- interface type and UID of the destination's interface
+
+abbrev pub bindRole : Rec → ℕ
+bindRole b = flag (word 3 b)
+
+abbrev pub bindUid : Rec → ℕ
+bindUid b = number (word 3 b)
+
+-- address type and address
+abbrev pub bindDestination : Rec → ℕ
+bindDestination b = word 5 b
+
+-- a bind to a group: the flag in octet 6
+unfoldable pub toGroup : Rec → Bool
+toGroup b = eqb (flag (bindDestination b)) flagSet
+
+-- the number in octets 6-7 is a group's or a device's
+abbrev pub boundGroup : Rec → GroupAddress
+boundGroup b = group (number (bindDestination b))
+
+abbrev pub boundDevice : Rec → DeviceAddress
+boundDevice b = device (number (bindDestination b))
+
+abbrev pub bindUnit : Rec → ℕ
+bindUnit b = octet 7 b
+
+-- the named unit as one number
+abbrev pub bindTo : Rec → ℕ
+bindTo b = unitAt 5 b
+
+-- binds that name a device as source, as individual destination, and binds to a group
+
+abbrev pub fromDevice : DeviceAddress → Rec → Bool
+fromDevice d = partIs Source (octets (d .0))
+
+abbrev pub toDevice : DeviceAddress → Rec → Bool
+toDevice d = partIs Destination (octets (d .0))
+
+abbrev pub toThisGroup : GroupAddress → Rec → Bool
+toThisGroup g = partIs Destination (octets (joined flagSet (g .0)))
+
+-- Group: address 2, name length 1, name 13 padded with 0x00
+
+abbrev pub longestName : ℕ
+longestName = 13
+
+abbrev pub groupAddress : Rec → GroupAddress
+groupAddress r = group (word 0 r)
+
+abbrev pub nameLength : Rec → ℕ
+nameLength r = octet 2 r
+
+abbrev pub groupName : Rec → List ℕ
+groupName r = take (nameLength r) (drop 3 r)
+
+abbrev pub namePadding : Rec → List ℕ
+namePadding r = drop (3 + nameLength r) r
+
+-- its address, and name length and name as they came in a payload, padded
+unfoldable pub groupRecord : GroupAddress → List ℕ → Rec
+groupRecord g p = octets (g .0) ++ p ++ replicate (1 + longestName - length p) 0x00
+
+-- Member: group 2, device 2, unit 1
+
+abbrev pub memberGroup : Rec → GroupAddress
+memberGroup m = group (word 0 m)
+
+abbrev pub memberDevice : Rec → DeviceAddress
+memberDevice m = device (word 2 m)
+
+abbrev pub memberUnit : Rec → ℕ
+memberUnit m = octet 4 m
+
+-- the member as one number
+abbrev pub memberNumber : Rec → ℕ
+memberNumber m = unitAt 2 m
+
+-- members of a group, and members that are units of a device
+
+abbrev pub inGroup : GroupAddress → Rec → Bool
+inGroup g = addressed (g .0)
+
+abbrev pub ofDevice : DeviceAddress → Rec → Bool
+ofDevice d = matches 2 (octets (d .0))

@@ -1,0 +1,2 @@
+-- What follows from the words alone.
+pub mod Apart

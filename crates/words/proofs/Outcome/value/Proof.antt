@@ -1,0 +1,16 @@
+-- `Outcome::value` gives the length or the count: each arm knows which case it is. Assumes nothing.
+use borrow.Author.Needs.{needs}
+use Rattle.words.proofs.Outcome.value.Statement.{statement}
+use Rattle.words.proofs.Outcome.value.Tie as tie
+
+pub value-spec : {M : Type 1} → statement M
+value-spec =
+    tie.close
+    (tie.spec
+    (λ c. search needs) (λ c. search needs) (λ c. search needs) (λ c. search needs) (λ c. search needs) (λ c. search needs) (λ c. search needs)
+    (λ c. search needs) (λ c. search needs) (λ c. search needs) (λ c. search needs) (λ c. search needs) (λ c. search needs) (λ c. search needs)
+    (λ c. search needs) (λ c. search needs) (λ c. search needs) (λ c. rw (c .before .self .given .1)) (λ c. rw (c .before .self2 .given .1))
+    (λ c. rw (c .enum-told .given .1)) (λ c. rw (c .enum-told2 .given .1)) (λ c. rw (c .enum-told3 .given .1)) (λ c. rw (c .enum-told4 .given .1))
+    (λ c. rw (c .enum-told5 .given .1)) (λ c. rw (c .enum-told6 .given .1)) (λ c. rw (c .enum-told7 .given .1)) (λ c. rw (c .enum-told8 .given .1))
+    (λ c. rw (c .enum-told9 .given .1)) (λ c. rw (c .enum-told10 .given .1)) (λ c. rw (c .enum-told11 .given .1)) (λ c. rw (c .enum-told12 .given .1))
+    (λ c. rw (c .enum-told13 .given .1)) (λ c. rw (c .enum-told14 .given .1)) (λ c. rw (c .enum-told15 .given .1)))

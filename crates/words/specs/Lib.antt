@@ -1,0 +1,3 @@
+-- The paper's words: names and numbers of codes, addresses, interfaces, commands and outcomes.
+pub mod Names
+pub mod Outcomes

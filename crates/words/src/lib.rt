@@ -1,0 +1,110 @@
+// The words of the paper as types: addresses, response codes, what a message says, what it is, and what a call answers. specs/ says what they mean.
+mod addresses;
+mod codes;
+mod commands;
+mod messages;
+mod outcomes;
+
+// A device's address. D'0001 and G'0001 are the same number and different things (document 01, Tables).
+pub struct DeviceAddress(pub u16);
+
+// A group's address.
+pub struct GroupAddress(pub u16);
+
+// A response code, the first octet of a reply's payload.
+pub struct Code(pub u8);
+
+// The fields of a message, in its order (document 01, The message), and the octet where the payload begins, counted from 1.
+pub struct Fields {
+    pub source: DeviceAddress,
+    pub source_unit: u8,
+    pub address_type: u16,
+    pub destination: u16,
+    pub destination_unit: u8,
+    pub app_ref: u8,
+    pub message_type: u8,
+    pub interface_type: u16,
+    pub uid: u16,
+    pub member: u8,
+    pub data_length: u16,
+    pub payload: u16,
+}
+
+// Where a message goes, of the four kinds that document 01 tells apart.
+pub enum Destination {
+    // D'0:U'0 and D'7FFF:U'FF, each of individual type
+    Concentrator,
+    Binds,
+    // any other unit
+    Unit(DeviceAddress, u8),
+    // a group; the unit octet is ignored
+    Group(GroupAddress),
+}
+
+// The octets of a bind that a removal compares.
+pub enum BindPart {
+    Whole,
+    Source,
+    SourceUnit,
+    Destination,
+    DestinationUnit,
+}
+
+// The eleven commands: one addition of a bind and five removals, and five of groups.
+pub enum Command {
+    AddBind,
+    RemoveBinds(BindPart),
+    CreateGroup,
+    DeleteGroup,
+    AddToGroup,
+    RemoveFromGroup,
+    GetGroupInfo,
+}
+
+// What a message to the concentrator asks for: one of the commands, or what is not served.
+pub enum Decoded {
+    Is(Command),
+    NotServed,
+}
+
+// The tables.
+pub enum Kind {
+    Devices,
+    Binds,
+    Groups,
+    Members,
+}
+
+// What a public call answers (document 01, Outcomes). `Done` holds a length, `Forwarded` the number of recipients.
+pub enum Outcome {
+    Done(usize),
+    Forwarded(usize),
+    Nobody,
+    WrongLength,
+    WrongDataLength,
+    WrongType,
+    NoSource,
+    NoDestination,
+    ResponseToMany,
+    Unsound,
+    NoRoom,
+    NotServed,
+    NoCopy,
+    OutOfRange,
+    AlreadyAdmitted,
+    NoFreeRecord,
+    NotAdmitted,
+}
+
+// What a message comes to: refused, a command, or a message to hand on.
+pub enum Way {
+    Refuse(Outcome),
+    Serve(Command),
+    Forward(Destination),
+}
+
+// What reading a message gives.
+pub struct Reading {
+    pub outcome: Outcome,
+    pub fields: Fields,
+}
