@@ -1,10 +1,10 @@
 -- Runs of octets: what the loops that compare, test, write and fill know at each turn. A loop's invariant is a record, with a lemma for its start,
 -- a turn and its end; it says that what is left to do gives the answer.
-use mathlib.Core.Path.{_≡_, refl, sym, ap, _∙_}
-use mathlib.Core.Bool.{Bool, true, false, _&&_}
+use mathlib.Core.Path.{_≡_, refl, sym, _∙_}
+use mathlib.Core.Bool.{true, false, _&&_}
 use mathlib.Core.List.{List, [], _∷_, _++_}
-use Prim.Native.Nat.{ℕ, zero, suc, _+_, _-_, _≤_, _<_}
-use native.Mathlib.Nat.{add-zero, zero-add, sub-self}
+use Prim.Native.Nat.{ℕ, suc, _+_, _-_, _≤_, _<_}
+use native.Mathlib.Nat.{add-zero, zero-add}
 use native.Mathlib.Numerals.{add-one}
 use native.Mathlib.Omega.{arith}
 use borrow.Author.Tests.{eq-eqb, ne-eqb}
@@ -65,7 +65,8 @@ pub testing-more : {v : ℕ} {t : List ℕ} {at n j : ℕ} → Testing v t at n 
 testing-more {v} {t} {at} {n} {j} c l e =
     record { within = omega arith; room = c .room; rest = sym (rw (eq-eqb _ _ e) at (testing-step v t at n j (c .room) l)) ∙ c .rest }
 
-pub testing-stop : {v : ℕ} {t : List ℕ} {at n j : ℕ} → Testing v t at n j → j < n → (getD t (at + j) 0 ≡ v → ⊥) → false ≡ all (λ o. eqb o v) (take n (drop at t))
+pub testing-stop : {v : ℕ} {t : List ℕ} {at n j : ℕ} → Testing v t at n j → j < n → (getD t (at + j) 0 ≡ v → ⊥)
+    → false ≡ all (λ o. eqb o v) (take n (drop at t))
 testing-stop {v} {t} {at} {n} {j} c l e = sym (rw (ne-eqb _ _ e) at (testing-step v t at n j (c .room) l)) ∙ c .rest
 
 pub testing-end : {v : ℕ} {t : List ℕ} {at n j : ℕ} → Testing v t at n j → n ≤ j → true ≡ all (λ o. eqb o v) (take n (drop at t))

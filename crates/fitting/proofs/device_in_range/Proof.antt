@@ -1,0 +1,13 @@
+-- `fitting::device_in_range` meets its contract.
+use Rattle.rules.specs.Lists.{_&_}
+use Rattle.rules.specs.Sound.{deviceInRange}
+use borrow.Author.Needs.{needs}
+use Rattle.fitting.proofs.device_in_range.Statement.{statement}
+use Rattle.fitting.proofs.device_in_range.Tie as tie
+
+returns : tie.Need-returns
+unfolding deviceInRange _&_
+returns c = rw (c .address-fits .ensures)
+
+pub device-in-range-spec : {M : Type 1} → statement M
+device-in-range-spec = tie.close (tie.spec (λ c κs. search needs) returns)

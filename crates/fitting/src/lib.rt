@@ -1,0 +1,117 @@
+// When the fields of a record are in range (document 01, Tables): the rules of a table that is sound, and those of Add Bind and Add to Group.
+use words::DeviceAddress;
+use words::Fields;
+use words::Kind;
+ghost use mathlib.Core.Path.{_≡_};
+ghost use Prim.Native.Nat.{_<_};
+ghost use lib.Dec.{eqb};
+ghost use lib.ListN.{length};
+ghost use Rattle.rules.specs.Lists.{all};
+ghost use Rattle.rules.specs.Layout.{size, namePadding};
+ghost use Rattle.rules.specs.Frame.{table};
+ghost use Rattle.rules.specs.Sound.{addressFits, deviceInRange, deviceFits, groupFits, destinationFits, bindFits, memberFits, fits};
+ghost use Rattle.words.specs.declared.Kind.the-variants.{Devices, Groups};
+
+// Is this an address that a device or a group may have?
+fn address_fits(address: u16) -> bool
+    ensures { λ r. ⌜ r ≡ addressFits address ⌝ }
+{
+    (DeviceAddress::LOWEST <= address) & (address <= DeviceAddress::HIGHEST)
+}
+
+// Address, rights 0 or 1, highest unit 0 to 254.
+pub fn device_in_range(address: DeviceAddress, rights: u8, highest: u8) -> bool
+    ensures { λ r. ⌜ r ≡ deviceInRange address rights highest ⌝ }
+{
+    address_fits(address.0) & (rights <= 1) & (highest <= DeviceAddress::HIGHEST_UNIT)
+}
+
+fn device_fits(rec: &[u8]) -> bool
+    requires { ⌜ length (now rec) ≡ size Devices ⌝ }
+    ensures { λ r. ⌜ r ≡ deviceFits (now (rec .entry)) ⌝ }
+{
+    let address = DeviceAddress(octets::word_at(rec, 0));
+    device_in_range(address, rec[layouts::RIGHTS], rec[layouts::HIGHEST_UNIT])
+}
+
+// An octet as a count.
+fn wide(octet: u8) -> usize
+    ensures { λ r. ⌜ r ≡ octet ⌝ }
+{
+    octet as usize
+}
+
+// "name 13 padded with 0x00": the octets behind the name.
+fn padded(rec: &[u8]) -> bool
+    requires { ⌜ 2 < length (now rec) ⌝ }
+    ensures { λ r. ⌜ r ≡ all (λ o. eqb o 0x00) (namePadding (now (rec .entry))) ⌝ }
+{
+    let end = layouts::NAME + wide(rec[layouts::NAME_LENGTH]);
+    if rec.len() < end {
+        return true;
+    }
+    octets::all_at(rec, end, rec.len() - end, 0x00)
+}
+
+// Address, name length 0 to 13, name padded with 0x00.
+fn group_fits(rec: &[u8]) -> bool
+    requires { ⌜ length (now rec) ≡ size Groups ⌝ }
+    ensures { λ r. ⌜ r ≡ groupFits (now (rec .entry)) ⌝ }
+{
+    let address = address_fits(octets::word_at(rec, 0));
+    let padding = padded(rec);
+    address & (rec[layouts::NAME_LENGTH] <= layouts::LONGEST_NAME) & padding
+}
+
+// Is a bind's destination a group that exists, or a unit that exists and is not the source unit itself?
+fn destination_fits(bind: [u8; 8], devices: &[u8], groups: &[u8]) -> bool
+    ensures { λ r. ⌜ r ≡ destinationFits (table Devices (now (devices .entry))) (table Groups (now (groups .entry))) bind ⌝ }
+{
+    if layouts::to_group(bind) {
+        return existing::group_exists(groups, layouts::bound_group(bind));
+    }
+    let device = layouts::bound_device(bind);
+    let there = existing::unit_exists(devices, device, layouts::bind_unit(bind));
+    let to = layouts::bind_to(bind);
+    there & (to != layouts::bind_from(bind))
+}
+
+// The field rules of Add Bind, and "a bind's octet 1 with top bit 0".
+pub fn bind_fits(bind: [u8; 8], devices: &[u8], groups: &[u8]) -> bool
+    ensures { λ r. ⌜ r ≡ bindFits (table Devices (now (devices .entry))) (table Groups (now (groups .entry))) bind ⌝ }
+{
+    let source = layouts::bind_source(bind);
+    let top = octets::flag(source.0);
+    let there = existing::unit_exists(devices, source, layouts::bind_source_unit(bind));
+    let uid = layouts::bind_uid(bind);
+    let unit = layouts::bind_unit(bind);
+    let destination = destination_fits(bind, devices, groups);
+    (top == 0)
+        & there
+        & (uid != Fields::ANY_INTERFACE)
+        & (unit != DeviceAddress::ANY_UNIT)
+        & destination
+}
+
+// "each device and unit named exists; each group named exists"
+pub fn member_fits(member: [u8; 5], devices: &[u8], groups: &[u8]) -> bool
+    ensures { λ r. ⌜ r ≡ memberFits (table Devices (now (devices .entry))) (table Groups (now (groups .entry))) member ⌝ }
+{
+    let group_there = existing::group_exists(groups, layouts::member_group(member));
+    let device = layouts::member_device(member);
+    let unit_there = existing::unit_exists(devices, device, layouts::member_unit(member));
+    group_there & unit_there
+}
+
+// A used record of a table, by the table's rule.
+pub fn fits(kind: Kind, rec: &[u8], devices: &[u8], groups: &[u8]) -> bool
+    requires { ⌜ length (now rec) ≡ size kind ⌝ }
+    ensures { λ r. ⌜ r ≡ fits kind (table Devices (now (devices .entry))) (table Groups (now (groups .entry))) (now (rec .entry)) ⌝ }
+{
+    match kind {
+        Kind::Devices => device_fits(rec),
+        Kind::Binds => bind_fits(layouts::bind_at(rec, 0), devices, groups),
+        Kind::Groups => group_fits(rec),
+        Kind::Members => member_fits(layouts::member_at(rec, 0), devices, groups),
+    }
+}

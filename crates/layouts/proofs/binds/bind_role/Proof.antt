@@ -1,0 +1,12 @@
+-- `layouts::binds::bind_role` meets its contract.
+use Rattle.rules.specs.Octets.{flag}
+use borrow.Author.Needs.{needs}
+use Rattle.layouts.proofs.binds.bind_role.Statement.{statement}
+use Rattle.layouts.proofs.binds.bind_role.Tie as tie
+
+returns : tie.Need-returns
+unfolding flag
+returns c = rw (c .flag .ensures, c .before .word-at .ensures)
+
+pub bind-role-spec : {M : Type 1} → statement M
+bind-role-spec = tie.close (tie.spec (λ c. search needs) (λ c κs. search needs) (λ c κs. search needs) returns)

@@ -1,0 +1,12 @@
+-- `layouts::binds::bind_uid` meets its contract.
+use Rattle.rules.specs.Octets.{number}
+use borrow.Author.Needs.{needs}
+use Rattle.layouts.proofs.binds.bind_uid.Statement.{statement}
+use Rattle.layouts.proofs.binds.bind_uid.Tie as tie
+
+returns : tie.Need-returns
+unfolding number
+returns c = rw (c .number .ensures, c .before .word-at .ensures)
+
+pub bind-uid-spec : {M : Type 1} → statement M
+bind-uid-spec = tie.close (tie.spec (λ c. search needs) (λ c κs. search needs) (λ c κs. search needs) returns)

@@ -1,0 +1,12 @@
+-- `layouts::binds::bound_group` meets its contract.
+use Rattle.rules.specs.Octets.{number}
+use borrow.Author.Needs.{needs}
+use Rattle.layouts.proofs.binds.bound_group.Statement.{statement}
+use Rattle.layouts.proofs.binds.bound_group.Tie as tie
+
+returns : tie.Need-returns
+unfolding number
+returns c = rw (c .number .ensures, c .before .word-at .ensures)
+
+pub bound-group-spec : {M : Type 1} → statement M
+bound-group-spec = tie.close (tie.spec (λ c. search needs) (λ c κs. search needs) (λ c κs. search needs) returns)

@@ -1,0 +1,12 @@
+-- `layouts::binds::same_bind` meets its contract.
+use Rattle.rules.specs.Tables.{matches}
+use borrow.Author.Needs.{needs}
+use Rattle.layouts.proofs.binds.same_bind.Statement.{statement}
+use Rattle.layouts.proofs.binds.same_bind.Tie as tie
+
+returns : tie.Need-returns
+unfolding matches
+returns c = c .same-at .ensures
+
+pub same-bind-spec : {M : Type 1} → statement M
+same-bind-spec = tie.close (tie.spec (λ c. search needs) (λ c. search needs) (λ c κs. search needs) returns)

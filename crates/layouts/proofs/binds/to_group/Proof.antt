@@ -1,0 +1,13 @@
+-- `layouts::binds::to_group` meets its contract.
+use Rattle.rules.specs.Layout.{toGroup}
+use Rattle.rules.specs.Octets.{flag}
+use borrow.Author.Needs.{needs}
+use Rattle.layouts.proofs.binds.to_group.Statement.{statement}
+use Rattle.layouts.proofs.binds.to_group.Tie as tie
+
+returns : tie.Need-returns
+unfolding toGroup flag
+returns c = rw (c .flag .ensures, c .before .word-at .ensures)
+
+pub to-group-spec : {M : Type 1} → statement M
+to-group-spec = tie.close (tie.spec (λ c. search needs) (λ c κs. search needs) (λ c κs. search needs) returns)

@@ -1,0 +1,118 @@
+// The records (document 01, Tables): how many octets a record of each table has, how many there may be, and its fields, read and built. No other crate
+// knows the place of a field.
+mod binds;
+mod members;
+mod sizes;
+
+pub use binds::DESTINATION;
+pub use binds::SOURCE;
+pub use binds::bind_at;
+pub use binds::bind_from;
+pub use binds::bind_role;
+pub use binds::bind_source;
+pub use binds::bind_source_unit;
+pub use binds::bind_to;
+pub use binds::bind_uid;
+pub use binds::bind_unit;
+pub use binds::bound_device;
+pub use binds::bound_group;
+pub use binds::part_length;
+pub use binds::part_start;
+pub use binds::same_bind;
+pub use binds::to_group;
+pub use members::member_at;
+pub use members::member_device;
+pub use members::member_group;
+pub use members::member_unit;
+pub use sizes::key_of;
+pub use sizes::most_of;
+pub use sizes::size_of;
+use words::DeviceAddress;
+use words::GroupAddress;
+ghost use mathlib.Core.Path.{_≡_};
+ghost use Prim.Native.Nat.{_+_, _<_, _≤_, _^_};
+ghost use lib.ListN.{length};
+ghost use Rattle.rules.specs.Octets.{octets};
+ghost use Rattle.rules.specs.Units.{unitNumber, unitAt};
+ghost use Rattle.rules.specs.Layout.{deviceRecord, groupRecord, longestName};
+
+// The octets of a record in each table.
+pub const DEVICE: usize = 4;
+
+pub const BIND: usize = 8;
+
+pub const GROUP: usize = 16;
+
+pub const MEMBER: usize = 5;
+
+// How many records there may be in each.
+pub const MOST_DEVICES: usize = 64;
+
+pub const MOST_BINDS: usize = 64;
+
+pub const MOST_GROUPS: usize = 16;
+
+pub const MOST_MEMBERS: usize = 128;
+
+// The octets of an address.
+pub const ADDRESS: usize = 2;
+
+// Where rights and highest unit stand in a device's record, name length and name in a group's, the device in a member's.
+pub const RIGHTS: usize = 2;
+
+pub const HIGHEST_UNIT: usize = 3;
+
+pub const NAME_LENGTH: usize = 2;
+
+pub const NAME: usize = 3;
+
+pub const MEMBER_DEVICE: usize = 2;
+
+// The most octets of a name.
+pub const LONGEST_NAME: u8 = 13;
+
+// An address as a record begins with it.
+pub fn address_octets(w: u16) -> [u8; 2]
+    ensures { λ r. ⌜ r ≡ octets w ⌝ }
+{
+    [octets::high(w), octets::low(w)]
+}
+
+// A unit as one number, its device's and then its own: rising device, then unit, is rising number.
+pub fn unit_number(device: DeviceAddress, unit: u8) -> u32
+    ensures { λ r. ⌜ (r ≡ unitNumber device unit) × (r < 2 ^ 24) ⌝ }
+{
+    device.0 as u32 * 256 + unit as u32
+}
+
+// The unit in the three octets from `at` on: device, unit.
+pub fn unit_at(s: &[u8], at: usize) -> u32
+    requires { ⌜ at + 3 ≤ length (now s) ⌝ }
+    ensures { λ r. ⌜ (r ≡ unitAt at (now (s .entry))) × (r < 2 ^ 24) ⌝ }
+{
+    unit_number(DeviceAddress(octets::word_at(s, at)), s[at + 2])
+}
+
+// The record of a device: address, rights, highest unit.
+pub fn device_record(address: DeviceAddress, rights: u8, highest: u8) -> [u8; 4]
+    ensures { λ r. ⌜ r ≡ deviceRecord address rights highest ⌝ }
+{
+    [
+        octets::high(address.0),
+        octets::low(address.0),
+        rights,
+        highest,
+    ]
+}
+
+// The record of a new group: its address, then name length and name as they came, padded with 0x00.
+pub fn group_record(group: GroupAddress, named: &[u8]) -> [u8; 16]
+    requires { ⌜ length (now named) ≤ 1 + longestName ⌝ }
+    ensures { λ r. ⌜ r ≡ groupRecord group (now (named .entry)) ⌝ }
+{
+    let mut record = [0x00u8; 16];
+    octets::put(&mut record[NAME_LENGTH..], named);
+    record[0] = octets::high(group.0);
+    record[1] = octets::low(group.0);
+    record
+}

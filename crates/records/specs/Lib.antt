@@ -1,0 +1,2 @@
+-- What a search asks of one record, and where it ends.
+pub mod Search

@@ -1,0 +1,61 @@
+-- `soundness::all_fit` meets its contract. The records that are left decide.
+use mathlib.Core.Path.{sym, ap, _∙_}
+use Prim.Native.Nat.{_-_, _<_}
+use native.Mathlib.Omega.{arith}
+use lib.ListN.{length}
+use borrow.Author.Needs.{needs}
+use Rattle.words.specs.declared.Kind.the-variants.{Devices, Groups}
+use Rattle.rules.specs.Frame.{table}
+use Rattle.rules.specs.Lists.{all, keep}
+use Rattle.rules.specs.Tables.{used}
+use Rattle.rules.specs.Sound.{fits}
+use Rattle.rules.proofs.Records.{Walking, walking-start, walking-more, walking-hit, walking-end, length-record}
+use Rattle.soundness.proofs.Asking.{all-hit, all-miss}
+use Rattle.soundness.proofs.Sizes.{sizes}
+use Rattle.soundness.proofs.all_fit.Statement.{statement}
+use Rattle.soundness.proofs.all_fit.Tie as tie
+
+abbrev Inv-loop : tie.InvT-loop
+Inv-loop kind given devices groups size at₀ at = Walking (λ t. all (fits kind (table Devices devices) (table Groups groups)) (used t)) size given at
+
+abbrev μ-loop : tie.MeasureT-loop
+μ-loop kind given devices groups size at₀ at = length given - at
+
+positive : (s : tie.After-size-of Inv-loop μ-loop) → 0 < s .size-of .result
+positive s = rw (s .size-of .ensures) (sizes (s .before .before .before .before .args .kind) .0)
+
+free-or-fits-requires : tie.Need-free-or-fits-requires Inv-loop μ-loop
+free-or-fits-requires c κs =
+    let l = c .before .before in
+    let s = l .before in
+    ap length (c .record-at .ensures) ∙ length-record (s .size-of .result) (l .loop .at) (s .before .before .before .before .args .given .now) (omega arith)
+    ∙ s .size-of .ensures
+
+returns : tie.Need-returns Inv-loop μ-loop
+returns c =
+    let l = c .before .before .before .before in
+    rw (sym (l .before .size-of .ensures)) (walking-hit (l .loop .inv) (positive (l .before)) (omega arith)
+    (all-hit _ _ (c .before .before .record-at .ensures) (c .before .free-or-fits .ensures) (c .if1 .taken)))
+
+loop-again : tie.Need-loop-again Inv-loop μ-loop
+loop-again c =
+    let l = c .before .before .before .before in
+    walking-more (l .loop .inv) (positive (l .before)) (omega arith)
+    (all-miss _ _ (c .before .before .record-at .ensures) (c .before .free-or-fits .ensures) (c .if1 .left))
+
+returns-2 : tie.Need-returns-2 Inv-loop μ-loop
+unfolding all used keep
+returns-2 c = rw (sym (c .before .before .size-of .ensures)) (walking-end (c .before .loop .inv) (omega arith))
+
+pub all-fit-spec : {M : Type 1} → statement M
+all-fit-spec = tie.close (tie.spec Inv-loop μ-loop
+    (λ c κs. search needs)
+    (λ c. walking-start)
+    (λ c. omega arith)
+    (λ c κs. omega arith)
+    free-or-fits-requires
+    returns
+    (λ c. omega arith)
+    (λ c. omega (arith, positive (c .before .before .before .before .before)))
+    loop-again
+    returns-2)

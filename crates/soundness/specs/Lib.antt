@@ -1,0 +1,2 @@
+-- What the checks of a table ask of one record.
+pub mod Asking

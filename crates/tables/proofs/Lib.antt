@@ -1,5 +1,0 @@
--- The laws that the proofs of this crate and of those above it cite.
-pub mod Search
-pub mod Rights
-pub mod Places
-pub mod Lengths
