@@ -1,4 +1,2 @@
--- The definitions that the contracts of this crate cite beside those of the rules.
-pub mod Listing
-pub mod Leaving
+-- The definitions that the contracts of this crate cite beside those of the rules and of the crates below.
 pub mod Delivering

@@ -1,55 +1,92 @@
--- Laws of reading: when a message can be read, and what then is known of it.
-use mathlib.Core.Path.{_≡_, refl, _∙_}
+-- Laws of reading: what a caller knows from the number of the outcome, 0 or another.
+use mathlib.Core.Path.{_≡_, refl, ap, _∙_}
 use mathlib.Core.Bool.{Bool, true, false}
 use mathlib.Core.List.{List}
-use Prim.Native.Nat.{ℕ, _≤_}
-use lib.Dec.{eqb}
+use Prim.Native.Nat.{ℕ, _-_, _≤_}
+use lib.Dec.{eqb, leb}
 use lib.ListN.{length}
 use borrow.Author.Tests.{leb-true, eq-eqb, ne-eqb}
+use Rattle.words.specs.Names.{noFields, headerLength, commandType, lastType}
+use Rattle.words.specs.Outcomes.{numberOf}
+use Rattle.words.specs.declared.Fields.{Fields}
+use Rattle.words.specs.declared.Outcome.{Outcome}
+use Rattle.words.specs.declared.Outcome.the-variants.{Done, WrongLength, WrongDataLength, WrongType}
+use Rattle.words.specs.declared.Reading.{Reading}
 use Rattle.rules.specs.Lists.{ask, _&_}
-use Rattle.rules.specs.Message.{headerLength, lengthFits, dataLengthFits, typeFits, readOutcome, readable}
-use Rattle.rules.specs.Outcomes.{numberOf}
-use Rattle.rules.specs.declared.Outcome.{Outcome}
-use Rattle.rules.specs.declared.Outcome.the-variants.{Done, WrongLength, WrongDataLength, WrongType}
-use Rattle.rules.proofs.Lists.{split}
+use Rattle.rules.specs.Message.{fields, lengthFits, dataLengthFits, typeFits, reads, readingOf, reading}
+use Rattle.rules.proofs.Lists.{split, ask-pass, ask-fail}
 
--- a message can be read iff its outcome is number 0
-pub readable-is : (m : List ℕ) → readable m ≡ eqb (numberOf (readOutcome m)) 0
-unfolding _&_ ask readable readOutcome
-readable-is m = step (lengthFits m) (dataLengthFits m) (typeFits m)
-  where
-    step : (a b c : Bool) → (a & b & c) ≡ eqb (numberOf (ask a WrongLength (ask b WrongDataLength (ask c WrongType (Done 0))))) 0
-    step true true true = refl
-    step true true false = refl
-    step true false c = refl
-    step false b c = refl
+-- is it outcome 0?
+abbrev clear : Outcome → Bool
+clear o = eqb (numberOf o) 0
 
--- the checks 10, 11 and 12 at the head of a chain: what follows where the message can be read, else its outcome
-pub checks : {A : Type 0} (m : List ℕ) (f : Outcome → A) (rest : A)
-    → ask (lengthFits m) (f WrongLength) (ask (dataLengthFits m) (f WrongDataLength) (ask (typeFits m) (f WrongType) rest)) ≡ ask (readable m) (f (readOutcome m)) rest
-unfolding _&_ ask readable readOutcome
-checks {A} m f rest = step (lengthFits m) (dataLengthFits m) (typeFits m)
+-- the checks by the outcome that they give: the rest where it is 0, else a refusal with it
+reads-is : {A : Type 0} (m : List ℕ) (refuse : Outcome → A) (rest : A)
+    → reads m refuse rest ≡ ask (clear (reading m .outcome)) (refuse (reading m .outcome)) rest
+unfolding ask reads reading
+reads-is {A} m refuse rest = step (lengthFits m) (dataLengthFits m) (typeFits m)
   where
+    of : (a b c : Bool) → Reading
+    of a b c =
+        ask a (readingOf WrongLength noFields)
+        (ask b (readingOf WrongDataLength noFields)
+        (ask c (readingOf WrongType noFields)
+        (readingOf (Done 0) (fields m))))
+
     step : (a b c : Bool)
-        → ask a (f WrongLength) (ask b (f WrongDataLength) (ask c (f WrongType) rest))
-        ≡ ask (a & b & c) (f (ask a WrongLength (ask b WrongDataLength (ask c WrongType (Done 0))))) rest
+        → ask a (refuse WrongLength) (ask b (refuse WrongDataLength) (ask c (refuse WrongType) rest))
+        ≡ ask (clear (of a b c .outcome)) (refuse (of a b c .outcome)) rest
     step true true true = refl
     step true true false = refl
     step true false c = refl
     step false b c = refl
 
--- the same from the number n of the outcome o that was read
-pub is-readable : (m : List ℕ) {o : Outcome} {n : ℕ} → o ≡ readOutcome m → n ≡ numberOf o → n ≡ 0 → readable m ≡ true
-is-readable m {o} {n} e k z = readable-is m ∙ eq-eqb (numberOf (readOutcome m)) 0 (rw (← e, ← k) z)
+-- a chain that refuses with `false` and holds has passed its first check
+passed : (b rest : Bool) → ask b false rest ≡ true → b ≡ true
+unfolding ask
+passed true rest e = refl
+passed false rest e = e
 
-pub not-readable : (m : List ℕ) {o : Outcome} {n : ℕ} → o ≡ readOutcome m → n ≡ numberOf o → (n ≡ 0 → ⊥) → readable m ≡ false
-not-readable m {o} {n} e k z = readable-is m ∙ ne-eqb (numberOf (readOutcome m)) 0 (rw (← e, ← k) z)
-
--- the length of a message that passes the first check, and of one that can be read
+-- the length of a message that passes the first check
 pub long-enough : (m : List ℕ) → lengthFits m ≡ true → headerLength ≤ length m
 unfolding lengthFits
 long-enough m h = leb-true headerLength (length m) (split h .0)
 
-pub readable-long : (m : List ℕ) → readable m ≡ true → headerLength ≤ length m
-unfolding readable
-readable-long m h = long-enough m (split (split h .0) .0)
+-- the checks 11 and 12, of the fields that were taken from the message
+module _ (m : List ℕ) {f : Fields} (e : f ≡ fields m) where
+  pub said-length : dataLengthFits m ≡ eqb (f .«data_length») (length m - headerLength)
+  unfolding fields dataLengthFits
+  said-length = rw e
+
+  pub said-type : typeFits m ≡ (leb commandType (f .«message_type») & leb (f .«message_type») lastType)
+  unfolding fields typeFits
+  said-type = rw e
+
+-- r was read, and n is the number of its outcome
+module _ (m : List ℕ) {r : Reading} {n : ℕ} (e : r ≡ reading m) (k : n ≡ numberOf (r .outcome)) where
+  is-clear : n ≡ 0 → clear (reading m .outcome) ≡ true
+  is-clear z = eq-eqb (numberOf (reading m .outcome)) 0 (rw (← e, ← k) z)
+
+  not-clear : (n ≡ 0 → ⊥) → clear (reading m .outcome) ≡ false
+  not-clear z = ne-eqb (numberOf (reading m .outcome)) 0 (rw (← e, ← k) z)
+
+  -- the checks at the head of any chain: what follows them, or the outcome
+
+  pub reads-on : {A : Type 0} (refuse : Outcome → A) (rest : A) → n ≡ 0 → reads m refuse rest ≡ rest
+  reads-on refuse rest z = reads-is m refuse rest ∙ ask-pass _ _ (is-clear z)
+
+  pub reads-refused : {A : Type 0} (refuse : Outcome → A) (rest : A) → (n ≡ 0 → ⊥) → reads m refuse rest ≡ refuse (r .outcome)
+  reads-refused refuse rest z = reads-is m refuse rest ∙ ask-fail _ _ (not-clear z) ∙ rw e
+
+  -- what was read are the fields, and the header is there
+
+  pub read-fields : n ≡ 0 → r .fields ≡ fields m
+  unfolding reading
+  read-fields z = ap (λ (x : Reading). x .fields) (e ∙ reads-on (λ o. readingOf o noFields) (readingOf (Done 0) (fields m)) z)
+
+  pub read-length : n ≡ 0 → lengthFits m ≡ true
+  unfolding reads
+  read-length z = passed _ _ (reads-on (λ o. false) true z)
+
+  pub read-long : n ≡ 0 → headerLength ≤ length m
+  read-long z = long-enough m (read-length z)

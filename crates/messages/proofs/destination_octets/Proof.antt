@@ -6,7 +6,7 @@ use Rattle.messages.proofs.destination_octets.Tie as tie
 
 returns : tie.Need-returns
 unfolding octets
-returns c = cc
+returns c = rw (c .low .ensures, c .before .high .ensures)
 
 pub destination-octets-spec : {M : Type 1} → statement M
 destination-octets-spec = tie.close (tie.spec (λ c κs. search needs) (λ c κs. search needs) returns)

@@ -1,14 +1,13 @@
 -- `messages::is_response` meets its contract. The six tests are the definition's, grouped the other way.
 use mathlib.Core.Bool.{or-assoc, or-false}
-use borrow.Author.Needs.{needs}
 use Rattle.rules.specs.Lists.{any}
-use Rattle.rules.specs.Message.{kind, response}
+use Rattle.rules.specs.Message.{response}
 use Rattle.messages.proofs.is_response.Statement.{statement}
 use Rattle.messages.proofs.is_response.Tie as tie
 
 returns : tie.Need-returns
-unfolding any kind response
+unfolding any response
 returns c = simp (or-assoc, or-false)
 
 pub is-response-spec : {M : Type 1} → statement M
-is-response-spec = tie.close (tie.spec (λ c. search needs) returns)
+is-response-spec = tie.close (tie.spec returns)

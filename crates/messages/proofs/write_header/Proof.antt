@@ -14,4 +14,6 @@ returns c =
     c .before .before .put .ensures ∙ rw (h .header-octets .ensures, h .before .answering .ensures)
 
 pub write-header-spec : {M : Type 1} → statement M
-write-header-spec = tie.close (tie.spec (λ c. search needs) (λ c κs. search needs) header-octets-requires (λ c. search needs) (λ c κs. search needs) (λ c. search needs) returns)
+write-header-spec =
+    tie.close (tie.spec (λ c. search needs) (λ c κs. search needs) header-octets-requires (λ c. search needs) (λ c κs. search needs)
+    (λ c. search needs) returns)

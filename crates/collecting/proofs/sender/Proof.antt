@@ -1,0 +1,12 @@
+-- `collecting::sender` meets its contract. The number of the source device and unit.
+use borrow.Author.Needs.{needs}
+use Rattle.rules.specs.Message.{sender}
+use Rattle.collecting.proofs.sender.Statement.{statement}
+use Rattle.collecting.proofs.sender.Tie as tie
+
+returns : tie.Need-returns
+unfolding sender
+returns c = c .unit-number .ensures .0
+
+pub sender-spec : {M : Type 1} → statement M
+sender-spec = tie.close (tie.spec (λ c κs. search needs) returns)

@@ -1,0 +1,224 @@
+// The recipients are collected in the lent list, each once (document 01, Recipients): those that a record gives, then those of a table.
+use layouts::BIND;
+use layouts::MEMBER;
+use layouts::address_octets;
+use layouts::bind_at;
+use layouts::bind_from;
+use layouts::bind_role;
+use layouts::bind_to;
+use layouts::bind_uid;
+use layouts::bound_group;
+use layouts::member_at;
+use layouts::member_device;
+use layouts::member_unit;
+use layouts::to_group;
+use layouts::unit_number;
+use units::append;
+use units::listed;
+use words::Fields;
+use words::GroupAddress;
+ghost use mathlib.Core.Path.{_≡_};
+ghost use Prim.Native.Nat.{_+_, _≤_, _<_, _^_};
+ghost use mathlib.Core.List.{[], _∷_};
+ghost use lib.ListN.{length, take, drop};
+ghost use Rattle.words.specs.declared.Kind.the-variants.{Binds, Members};
+ghost use Rattle.rules.specs.Layout.{size, memberNumber, inGroup};
+ghost use Rattle.rules.specs.Frame.{table};
+ghost use Rattle.rules.specs.Message.{sender};
+ghost use Rattle.rules.specs.Recipients.{bindMatches, reached};
+ghost use Rattle.records.specs.Search.{passes};
+ghost use Rattle.units.specs.Listing.{Taken, Enough};
+ghost use Rattle.collecting.specs.Leaving.{leftOut, leaving, membersBut, boundBut};
+
+// Whom a collection leaves out: the sender, by its number, where the paper says so.
+pub enum Except {
+    Nobody,
+    Sender(u32),
+}
+
+// Is this unit left out? "without the sender"
+fn left_out(except: Except, u: u32) -> bool
+    ensures { λ r. ⌜ r ≡ leftOut except u ⌝ }
+{
+    match except {
+        Except::Nobody => false,
+        Except::Sender(s) => u == s,
+    }
+}
+
+// The sender's number.
+pub fn sender(f: Fields) -> u32
+    ensures { λ r. ⌜ r ≡ sender f ⌝ }
+{
+    unit_number(f.source, f.source_unit)
+}
+
+// Is the record at `at` used, and of this group?
+fn is_member(members: &[u8], at: usize, group: GroupAddress) -> bool
+    requires { ⌜ at + size Members ≤ length (now members) ⌝ }
+    ensures { λ r. ⌜ r ≡ passes (inGroup group) (take (size Members) (drop at (now (members .entry)))) ⌝ }
+{
+    records::matches_at(members, MEMBER, at, 0, &address_octets(group.0))
+}
+
+// The member in the record at `at`, as one number.
+fn member_number(members: &[u8], at: usize) -> u32
+    requires { ⌜ at + size Members ≤ length (now members) ⌝ }
+    ensures { λ r. ⌜ (r ≡ memberNumber (take (size Members) (drop at (now (members .entry))))) × (r < 2 ^ 24) ⌝ }
+{
+    let member = member_at(members, at);
+    unit_number(member_device(member), member_unit(member))
+}
+
+// Does the bind match the message? Its source device, source unit, UID and interface type must equal the message's.
+fn bind_matches(f: Fields, bind: [u8; 8]) -> bool
+    ensures { λ r. ⌜ r ≡ bindMatches f bind ⌝ }
+{
+    let source = bind_from(bind) == sender(f);
+    let uid = bind_uid(bind) == f.uid;
+    let role = bind_role(bind) == f.interface_type;
+    source & uid & role
+}
+
+// Is the record at `at` used, and does it match the message?
+fn is_match(binds: &[u8], at: usize, f: Fields) -> bool
+    requires { ⌜ at + size Binds ≤ length (now binds) ⌝ }
+    ensures { λ r. ⌜ r ≡ passes (bindMatches f) (take (size Binds) (drop at (now (binds .entry)))) ⌝ }
+{
+    let free = records::free_at(binds, BIND, at);
+    !free & bind_matches(f, bind_at(binds, at))
+}
+
+// The recipients so far stand in the lent list; their number is carried forward and handed back (document 01, Recipients).
+pub struct Recipients {
+    pub count: usize,
+}
+
+impl Recipients {
+    // Nobody yet.
+    pub fn none() -> Self
+        ensures { λ r. ⌜ r .count ≡ 0 ⌝ }
+    {
+        Recipients { count: 0 }
+    }
+
+    // One more recipient, unless it is there: "Each unit stands once".
+    pub fn take(self, list: &mut [u8], u: u32) -> Self
+        requires { ⌜ (u < 2 ^ 24) × Enough (u ∷ []) (self .count) (now list) ⌝ }
+        ensures { λ r. ⌜ Taken (u ∷ []) (self .count) (now (list .entry)) (r .count) (now (list .exit)) ⌝ }
+    {
+        let n = self.count;
+        if listed(list, n, u) {
+            return self;
+        }
+        append(list, n, u);
+        Recipients { count: n + 1 }
+    }
+
+    // .. and unless it is left out.
+    fn take_unless(self, list: &mut [u8], except: Except, u: u32) -> Self
+        requires { ⌜ (u < 2 ^ 24) × Enough (leaving except (u ∷ [])) (self .count) (now list) ⌝ }
+        ensures { λ r. ⌜ Taken (leaving except (u ∷ [])) (self .count) (now (list .entry)) (r .count) (now (list .exit)) ⌝ }
+    {
+        if left_out(except, u) {
+            return self;
+        }
+        self.take(list, u)
+    }
+
+    // The member in the record at `at`, where it is used and of this group.
+    fn take_member(
+        self,
+        list: &mut [u8],
+        members: &[u8],
+        at: usize,
+        group: GroupAddress,
+        except: Except,
+    ) -> Self
+        requires { ⌜ (at + size Members ≤ length (now members))
+            × Enough (membersBut except group (take (size Members) (drop at (now members)) ∷ [])) (self .count) (now list) ⌝ }
+        ensures { λ r. ⌜ Taken (membersBut except group (take (size Members) (drop at (now (members .entry))) ∷ []))
+            (self .count) (now (list .entry)) (r .count) (now (list .exit)) ⌝ }
+    {
+        if !is_member(members, at, group) {
+            return self;
+        }
+        self.take_unless(list, except, member_number(members, at))
+    }
+
+    // The members of a group (document 01, Recipients; Commands and codes, Get Group Info).
+    pub fn take_members(
+        self,
+        list: &mut [u8],
+        members: &[u8],
+        group: GroupAddress,
+        except: Except,
+    ) -> Self
+        requires { ⌜ Enough (membersBut except group (table Members (now members))) (self .count) (now list) ⌝ }
+        ensures { λ r. ⌜ Taken (membersBut except group (table Members (now (members .entry))))
+            (self .count) (now (list .entry)) (r .count) (now (list .exit)) ⌝ }
+    {
+        let mut r = self;
+        let mut at = 0;
+        while MEMBER <= members.len() - at {
+            r = r.take_member(list, members, at, group, except);
+            at += MEMBER;
+        }
+        r
+    }
+
+    // Whom a bind reaches: "the named unit or the group's members". The unit octet of a group bind plays no part.
+    fn take_reached(self, list: &mut [u8], members: &[u8], bind: [u8; 8], except: Except) -> Self
+        requires { ⌜ Enough (leaving except (reached (table Members (now members)) bind)) (self .count) (now list) ⌝ }
+        ensures { λ r. ⌜ Taken (leaving except (reached (table Members (now (members .entry))) bind))
+            (self .count) (now (list .entry)) (r .count) (now (list .exit)) ⌝ }
+    {
+        if to_group(bind) {
+            return self.take_members(list, members, bound_group(bind), except);
+        }
+        self.take_unless(list, except, bind_to(bind))
+    }
+
+    // .. where the bind at `at` is used and matches the message.
+    fn take_bind(
+        self,
+        list: &mut [u8],
+        binds: &[u8],
+        at: usize,
+        members: &[u8],
+        f: Fields,
+        except: Except,
+    ) -> Self
+        requires { ⌜ (at + size Binds ≤ length (now binds))
+            × Enough (boundBut except f (table Members (now members)) (take (size Binds) (drop at (now binds)) ∷ [])) (self .count) (now list) ⌝ }
+        ensures { λ r. ⌜ Taken (boundBut except f (table Members (now (members .entry))) (take (size Binds) (drop at (now (binds .entry))) ∷ []))
+            (self .count) (now (list .entry)) (r .count) (now (list .exit)) ⌝ }
+    {
+        if !is_match(binds, at, f) {
+            return self;
+        }
+        self.take_reached(list, members, bind_at(binds, at), except)
+    }
+
+    // Whom the binds reach that match the message.
+    pub fn take_bound(
+        self,
+        list: &mut [u8],
+        binds: &[u8],
+        members: &[u8],
+        f: Fields,
+        except: Except,
+    ) -> Self
+        requires { ⌜ Enough (boundBut except f (table Members (now members)) (table Binds (now binds))) (self .count) (now list) ⌝ }
+        ensures { λ r. ⌜ Taken (boundBut except f (table Members (now (members .entry))) (table Binds (now (binds .entry))))
+            (self .count) (now (list .entry)) (r .count) (now (list .exit)) ⌝ }
+    {
+        let mut r = self;
+        let mut at = 0;
+        while BIND <= binds.len() - at {
+            r = r.take_bind(list, binds, at, members, f, except);
+            at += BIND;
+        }
+        r
+    }
+}

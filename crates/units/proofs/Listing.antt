@@ -1,0 +1,195 @@
+-- Laws of the recipients in a lent list: three octets and the unit's number, reading back what was written, one more recipient.
+use mathlib.Core.Path.{_≡_, refl, sym, ap, _∙_}
+use mathlib.Core.Bool.{true, false, false≢true}
+use mathlib.Core.List.{List, [], _∷_, _++_, flatMap, append-nil, append-assoc}
+use Prim.Native.Nat.{ℕ, zero, suc, _+_, _-_, _*_, _/_, _%_, _^_, _≤_, _<_}
+use native.Mathlib.Nat.{add-zero, sub-zero}
+use native.Mathlib.Numerals.{add-one}
+use native.Mathlib.Omega.{arith}
+use borrow.Author.Tests.{eqb-true}
+use lib.Dec.{eqb}
+use lib.ListN.{length, getD, take, drop, set, length-append, length-drop, length-set, take-append-drop}
+use lib.Seq.{getD-drop, drop-drop, drop-length, drop-append-add, length-take-le, take-at, drop-at, take-suc-set, append-snoc, sets, sets-eq}
+use Rattle.rules.specs.Lists.{has}
+use Rattle.rules.specs.Octets.{word, over}
+use Rattle.rules.specs.Units.{unitNumber, unitAt, threeOctets, unitOctets}
+use Rattle.units.specs.Listing.{units, addedAll, Taken, Enough}
+use Rattle.units.proofs.Units.{or-either, has-none, has-cons}
+use Rattle.units.proofs.Taking.{added-there, added-new, addedAll-grows}
+
+-- Octets written over octets
+
+-- all of them
+pub over-whole : (a l : List ℕ) → length a ≡ length l → over a l ≡ a
+unfolding over
+over-whole a l h = rw (h, drop-length, append-nil)
+
+pub over-over : (a b l : List ℕ) → length a ≤ length b → over b (over a l) ≡ over b l
+unfolding over
+over-over a b l h =
+    let m : length b ≡ length a + (length b - length a) = omega arith in
+    ap (λ (s : List ℕ). b ++ s) (rw (m, drop-append-add, drop-drop))
+
+-- A unit and its octets
+
+unit-drop : (at : ℕ) (l : List ℕ) → unitAt 0 (drop at l) ≡ unitAt at l
+unfolding unitAt unitNumber word
+unit-drop at l = simp (getD-drop, add-zero)
+
+unit-read : (u : ℕ) (l : List ℕ) → unitAt 0 (threeOctets u ++ l) ≡ u
+unfolding unitAt unitNumber word threeOctets
+unit-read u l = omega arith
+
+-- Units and their octets
+
+pub length-unitOctets : (us : List ℕ) → length (unitOctets us) ≡ 3 * length us
+unfolding unitOctets threeOctets flatMap
+length-unitOctets [] = refl
+length-unitOctets (u ∷ us) = omega (arith, length-unitOctets us)
+
+unitOctets-append : (us vs : List ℕ) → unitOctets (us ++ vs) ≡ unitOctets us ++ unitOctets vs
+unfolding unitOctets flatMap
+unitOctets-append [] vs = refl
+unitOctets-append (u ∷ us) vs = rw (unitOctets-append us vs) (sym (append-assoc (threeOctets u) _ _))
+
+unitOctets-more : (us : List ℕ) (u : ℕ) → unitOctets (us ++ u ∷ []) ≡ unitOctets us ++ threeOctets u
+unfolding unitOctets flatMap threeOctets
+unitOctets-more us u = unitOctets-append us (u ∷ [])
+
+pub length-units : (n : ℕ) (l : List ℕ) → length (units n l) ≡ n
+unfolding units
+length-units zero l = refl
+length-units (suc n) l = ap suc (length-units n (drop 3 l))
+
+units-front : (us l : List ℕ) → units (length us) (unitOctets us ++ l) ≡ us
+unfolding units unitOctets flatMap threeOctets
+units-front [] l = refl
+units-front (u ∷ us) l = rw (unit-read u (unitOctets us ++ l), units-front us l)
+
+-- what was written reads back
+pub units-written : (us l : List ℕ) → units (length us) (over (unitOctets us) l) ≡ us
+unfolding over
+units-written us l = units-front us (drop (length (unitOctets us)) l)
+
+-- octets that are read and written again are the same
+octets-units : (n : ℕ) (l : List ℕ) → ((i : ℕ) → getD l i 0 < 256) → 3 * n ≤ length l → unitOctets (units n l) ≡ take (3 * n) l
+unfolding units unitOctets flatMap threeOctets unitAt unitNumber word
+octets-units zero l o h = refl
+octets-units (suc n) [] o h = absurd (omega arith)
+octets-units (suc n) (a ∷ []) o h = absurd (omega arith)
+octets-units (suc n) (a ∷ b ∷ []) o h = absurd (omega arith)
+octets-units (suc n) (a ∷ b ∷ c ∷ l) o h =
+    let m : 3 * suc n ≡ suc (suc (suc (3 * n))) = omega arith in
+    let x : ((a * 256 + b) * 256 + c) / 65536 ≡ a = omega (arith, o 0, o 1, o 2) in
+    let y : ((a * 256 + b) * 256 + c) / 256 % 256 ≡ b = omega (arith, o 0, o 1, o 2) in
+    let z : ((a * 256 + b) * 256 + c) % 256 ≡ c = omega (arith, o 0, o 1, o 2) in
+    rw (m, x, y, z, octets-units n l (λ i. o (suc (suc (suc i)))) (omega arith))
+
+-- a unit in octets is below 2 ^ 24
+pub unit-small : (at : ℕ) (l : List ℕ) → ((i : ℕ) → getD l i 0 < 256) → unitAt at l < 2 ^ 24
+unfolding unitAt unitNumber word
+unit-small at l o = omega (arith, o at, o (at + 1), o (at + 2))
+
+pub has-small : (n : ℕ) (l : List ℕ) (u : ℕ) → ((i : ℕ) → getD l i 0 < 256) → has u (units n l) ≡ true → u < 2 ^ 24
+unfolding units
+has-small zero l u o h = absurd (false≢true (sym (has-none u) ∙ h))
+has-small (suc n) l u o h =
+    or-either (eqb u (unitAt 0 l)) (has u (units n (drop 3 l))) (sym (has-cons u (unitAt 0 l) (units n (drop 3 l))) ∙ h)
+    (λ e. omega (arith, eqb-true u (unitAt 0 l) e, unit-small 0 l o))
+    (has-small n (drop 3 l) u (λ i. rw getD-drop (o (3 + i))))
+
+-- The units from place i on of the first n
+
+unfoldable pub unitsFrom : ℕ → ℕ → List ℕ → List ℕ
+unitsFrom i n l = units (n - i) (drop (3 * i) l)
+
+pub from-start : (n : ℕ) (l : List ℕ) → unitsFrom 0 n l ≡ units n l
+unfolding unitsFrom
+from-start n l = rw sub-zero
+
+pub from-at : (i n : ℕ) (l : List ℕ) → i < n → unitsFrom i n l ≡ unitAt (3 * i) l ∷ unitsFrom (i + 1) n l
+unfolding unitsFrom units
+from-at i n l h =
+    let m : n - i ≡ suc (n - (i + 1)) = omega arith in
+    let k : 3 * (i + 1) ≡ 3 * i + 3 = omega arith in
+    rw (m, k, unit-drop, drop-drop)
+
+pub from-end : (i n : ℕ) (l : List ℕ) → n ≤ i → unitsFrom i n l ≡ []
+unfolding unitsFrom units
+from-end i n l h =
+    let m : n - i ≡ 0 = omega arith in
+    rw m
+
+-- A copy of the units as numbers: the first i are written, and those from place i on are left
+
+pub record Copying (n : ℕ) (l to₀ to : List ℕ) (i : ℕ) : Type 0 where
+  pub within : i ≤ n
+  pub same : length to ≡ length to₀
+  pub rest : take i to ++ unitsFrom i n l ≡ units n l
+
+pub copying-start : (n : ℕ) (l to : List ℕ) → Copying n l to to 0
+copying-start n l to = record { within = omega arith; same = refl; rest = from-start n l }
+
+module _ {n : ℕ} {l to₀ to : List ℕ} {i : ℕ} (c : Copying n l to₀ to i) where
+  pub copying-more : i < n → n ≤ length to₀ → {u : ℕ} → u ≡ unitAt (3 * i) l → Copying n l to₀ (set to i u) (i + 1)
+  copying-more h k {u} e =
+      let b : i < length to = omega (arith, c .same) in
+      record {
+        within = omega arith;
+        same = length-set to i u ∙ c .same;
+        rest = rw (add-one i, take-suc-set to i u b, append-snoc, e, ← add-one i) (rw (from-at i n l h) at (c .rest));
+      }
+
+  pub copying-end : n ≤ i → take n to ≡ units n l
+  copying-end h =
+      let e : i ≡ n = omega arith in
+      sym (append-nil (take n to)) ∙ rw (from-end n n l (omega arith)) at (rw e at (c .rest))
+
+-- The state of a list: one more unit behind the others
+
+pub written-more : (us l₀ : List ℕ) {l : List ℕ} {n : ℕ} (u : ℕ) → l ≡ over (unitOctets us) l₀ → n ≡ length us → 3 * n + 3 ≤ length l₀
+    → sets l (3 * n) (threeOctets u) ≡ over (unitOctets (us ++ u ∷ [])) l₀
+unfolding over threeOctets
+written-more us l₀ {l} {n} u e c h =
+    let a : length (unitOctets us) ≡ 3 * n = length-unitOctets us ∙ ap (λ (x : ℕ). 3 * x) (sym c) in
+    let f : l ≡ unitOctets us ++ drop (3 * n) l₀ = e ∙ rw a in
+    let g : length l ≡ length l₀ = ap length f ∙ rw (length-append, a, length-drop) (omega arith) in
+    let k : length (unitOctets (us ++ u ∷ [])) ≡ 3 * n + 3 = length-unitOctets (us ++ u ∷ []) ∙ rw (length-append) (omega arith) in
+    let d : drop (3 * n + 3) l ≡ drop (3 * n + 3) l₀ = rw (f, ← drop-drop 3 (3 * n), drop-at (unitOctets us) _ (3 * n) a) (drop-drop 3 (3 * n) l₀) in
+    let t : take (3 * n) l ≡ unitOctets us = rw f (take-at (unitOctets us) _ (3 * n) a) in
+    sets-eq (threeOctets u) l (3 * n) (omega arith) ∙ rw (k, d, t, unitOctets-more)
+
+-- as it is lent, its units are written over it
+pub units-stand : (n : ℕ) (l : List ℕ) → ((i : ℕ) → getD l i 0 < 256) → 3 * n ≤ length l → l ≡ over (unitOctets (units n l)) l
+unfolding over
+units-stand n l o h = rw (octets-units n l o h, length-take-le (3 * n) l h) (sym (take-append-drop (3 * n) l))
+
+-- Taking units
+
+pub enough-so-far : {vs : List ℕ} {n : ℕ} {l : List ℕ} → Enough vs n l → 3 * n ≤ length l
+enough-so-far {vs} {n} {l} r = omega (arith, length-units n l, addedAll-grows vs (units n l))
+
+pub taken-none : {vs : List ℕ} {n : ℕ} {l : List ℕ} → vs ≡ [] → ((i : ℕ) → getD l i 0 < 256) → Enough vs n l → Taken vs n l n l
+unfolding addedAll
+taken-none {vs} {n} {l} e o r = rw e (record { count = sym (length-units n l); octets = units-stand n l o (enough-so-far r) })
+
+-- one unit
+module _ {u n : ℕ} {l : List ℕ} (r : Enough (u ∷ []) n l) where
+  pub enough-for-one : has u (units n l) ≡ false → 3 * n + 3 ≤ length l
+  unfolding addedAll
+  enough-for-one h = omega (arith, length-units n l, simp length-append at (ap length (added-new u (units n l) h)))
+
+  pub taken-there : ((i : ℕ) → getD l i 0 < 256) → has u (units n l) ≡ true → Taken (u ∷ []) n l n l
+  unfolding addedAll
+  taken-there o h =
+      let a = added-there u (units n l) h in
+      record { count = rw a (sym (length-units n l)); octets = rw a (units-stand n l o (enough-so-far r)) }
+
+  pub taken-new : ((i : ℕ) → getD l i 0 < 256) → has u (units n l) ≡ false → {l′ : List ℕ} → l′ ≡ sets l (3 * n) (threeOctets u) → Taken (u ∷ []) n l (n + 1) l′
+  unfolding addedAll
+  taken-new o h {l′} s =
+      let a = added-new u (units n l) h in
+      record {
+        count = rw (a, length-append, length-units);
+        octets = s ∙ rw a (written-more (units n l) l u (units-stand n l o (enough-so-far r)) (sym (length-units n l)) (enough-for-one h));
+      }
