@@ -1,4 +1,2 @@
--- What the contracts of the commands cite besides the rules.
-pub mod Decode
-pub mod Handlers
+-- What the contracts of this crate cite besides the rules.
 pub mod Perform

@@ -1,11 +1,95 @@
-// The eleven commands of document 01, each from payload to reply payload.
-mod binds;
-mod changes;
-mod checks;
-mod decode;
-mod groups;
-mod info;
-mod whole;
+// A command whole: rights, length, then its own handler (document 01, Commands and codes).
+use words::Code;
+use words::Command;
+use words::DeviceAddress;
+ghost use mathlib.Core.Path.{_≡_};
+ghost use mathlib.Core.Bool.{true, cond};
+ghost use Prim.Native.Nat.{_+_, _≤_};
+ghost use lib.ListN.{length};
+ghost use Rattle.words.specs.Names.{headerLength, longest};
+ghost use Rattle.words.specs.declared.Kind.the-variants.{Devices};
+ghost use Rattle.rules.specs.Frame.{lent, table, tables};
+ghost use Rattle.rules.specs.Exists.{hasRights};
+ghost use Rattle.rules.specs.Sound.{sound};
+ghost use Rattle.rules.specs.Commands.{row, judge};
+ghost use Rattle.commands.specs.Perform.{performed, performing};
 
-pub use decode::command_of;
-pub use whole::perform;
+// The command's own handler. The code that it gives is the payload of the reply, unless more is named.
+fn act(
+    devices: &[u8],
+    binds: &mut [u8],
+    groups: &mut [u8],
+    members: &mut [u8],
+    command: Command,
+    payload: &[u8],
+    out: &mut [u8],
+) -> usize
+    requires { ⌜ (sound (lent (now devices) (now binds) (now groups) (now members)) ≡ true)
+        × (length (now payload) ≡ row command .length (now payload)) × (longest ≤ headerLength + length (now out)) ⌝ }
+    ensures { λ r. ⌜ performed r (lent (now (devices .entry)) (now (binds .exit)) (now (groups .exit)) (now (members .exit))) (now (out .exit))
+        ≡ performing (lent (now (devices .entry)) (now (binds .entry)) (now (groups .entry)) (now (members .entry))) command (now (payload .entry))
+        (row command .verdict (tables (lent (now (devices .entry)) (now (binds .entry)) (now (groups .entry)) (now (members .entry)))) (now (payload .entry)))
+        (now (out .entry)) ⌝ }
+{
+    match command {
+        Command::AddBind => {
+            let code = bind_commands::add_bind(devices, binds, groups, payload);
+            changing::write_code(out, code)
+        }
+        Command::RemoveBinds(part) => {
+            let code = bind_commands::remove_binds(binds, part, payload);
+            changing::write_code(out, code)
+        }
+        Command::CreateGroup => group_commands::create(groups, payload, out),
+        Command::DeleteGroup => {
+            let code = group_commands::delete_group(binds, groups, members, payload);
+            changing::write_code(out, code)
+        }
+        Command::AddToGroup => {
+            let code = group_commands::add_to_group(devices, groups, members, payload);
+            changing::write_code(out, code)
+        }
+        Command::RemoveFromGroup => {
+            let code = group_commands::remove_from_group(members, payload);
+            changing::write_code(out, code)
+        }
+        Command::GetGroupInfo => group_info::get_group_info(groups, members, payload, out),
+    }
+}
+
+// Has the sender the rights, where they are asked?
+fn rights_fit(devices: &[u8], source: DeviceAddress, asked: bool) -> bool
+    ensures { λ r. ⌜ r ≡ cond asked (hasRights (table Devices (now (devices .entry))) source) true ⌝ }
+{
+    if !asked {
+        return true;
+    }
+    existing::has_rights(devices, source)
+}
+
+// Performs a command of the device `source` on sound tables. The payload of its reply goes over `out`, the part of the lent reply behind the header.
+pub fn perform(
+    devices: &[u8],
+    binds: &mut [u8],
+    groups: &mut [u8],
+    members: &mut [u8],
+    source: DeviceAddress,
+    command: Command,
+    payload: &[u8],
+    out: &mut [u8],
+) -> usize
+    requires { ⌜ (sound (lent (now devices) (now binds) (now groups) (now members)) ≡ true) × (longest ≤ headerLength + length (now out)) ⌝ }
+    ensures { λ r. ⌜ performed r (lent (now (devices .entry)) (now (binds .exit)) (now (groups .exit)) (now (members .exit))) (now (out .exit))
+        ≡ performing (lent (now (devices .entry)) (now (binds .entry)) (now (groups .entry)) (now (members .entry))) command (now (payload .entry))
+        (judge (tables (lent (now (devices .entry)) (now (binds .entry)) (now (groups .entry)) (now (members .entry)))) source command (now (payload .entry)))
+        (now (out .entry)) ⌝ }
+{
+    let asked = payloads::demands(command, payload);
+    if !rights_fit(devices, source, asked.rights) {
+        return changing::write_code(out, Code::not_authorized());
+    }
+    if payload.len() != asked.length {
+        return changing::write_code(out, Code::invalid_argument());
+    }
+    act(devices, binds, groups, members, command, payload, out)
+}

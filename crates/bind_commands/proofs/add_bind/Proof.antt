@@ -1,0 +1,24 @@
+-- `bind_commands::add_bind` meets its contract: the field rules, then the addition.
+use mathlib.Core.Path.{sym, _∙_}
+use borrow.Author.Tests.{not-true, not-false}
+use Rattle.rules.proofs.Lists.{ask-pass, ask-fail}
+use Rattle.changing.proofs.Changed.{refuses}
+use borrow.Author.Needs.{needs}
+use Rattle.bind_commands.proofs.add_bind.Statement.{statement}
+use Rattle.bind_commands.proofs.add_bind.Tie as tie
+
+returns : tie.Need-returns
+returns c =
+    let f = c .before .before in
+    rw (← f .before .bind-of .ensures)
+    (refuses _ _ (c .invalid-argument .ensures) (ask-fail _ _ (sym (f .bind-fits .ensures) ∙ not-true _ (c .before .if1 .taken))))
+
+returns-2 : tie.Need-returns-2
+returns-2 c =
+    let f = c .before .before .before .before .before in
+    rw (← f .before .bind-of .ensures, ask-pass _ _ (sym (f .bind-fits .ensures) ∙ not-false _ (c .before .before .before .before .if1 .left)))
+    (c .before .before .add .ensures)
+
+pub add-bind-spec : {M : Type 1} → statement M
+add-bind-spec = tie.close (tie.spec (λ c κs. search needs) (λ c κs. search needs) (λ c κs. search needs) returns
+    (λ c κs. search needs) (λ c. search needs) returns-2)

@@ -1,0 +1,88 @@
+// The commands of Bind Management (document 01, Commands and codes). "A bind is handled as its eight octets, copied whole": it is read from a payload or a
+// record, compared and stored by value.
+use layouts::BIND;
+use layouts::SOURCE;
+use words::BindPart;
+use words::Code;
+ghost use mathlib.Core.Path.{_≡_};
+ghost use Prim.Native.Nat.{_%_};
+ghost use lib.ListN.{length};
+ghost use Rattle.words.specs.Names.{invalidArgument};
+ghost use Rattle.words.specs.declared.Kind.the-variants.{Devices, Binds, Groups};
+ghost use Rattle.rules.specs.Lists.{ask, any};
+ghost use Rattle.rules.specs.Tables.{used, matches, store, wipe, written};
+ghost use Rattle.rules.specs.Layout.{size, partLength, partIs};
+ghost use Rattle.rules.specs.Frame.{table};
+ghost use Rattle.rules.specs.Sound.{bindFits};
+ghost use Rattle.rules.specs.Payloads.{wanted, bindOf};
+ghost use Rattle.rules.specs.Commands.{addition, removal};
+ghost use Rattle.changing.specs.Changing.{coded, coding};
+
+// Is the bind there?
+fn bind_there(binds: &[u8], bind: [u8; 8]) -> bool
+    ensures { λ r. ⌜ r ≡ any (matches 0 bind) (used (table Binds (now (binds .entry)))) ⌝ }
+{
+    let mut at = 0;
+    while BIND <= binds.len() - at {
+        let here = layouts::bind_at(binds, at);
+        let free = records::free_at(binds, BIND, at);
+        if !free & layouts::same_bind(here, bind) {
+            return true;
+        }
+        at += BIND;
+    }
+    false
+}
+
+// Puts the bind into the first free record.
+fn store_bind(binds: &mut [u8], bind: [u8; 8])
+    requires { ⌜ length (now binds) % size Binds ≡ 0 ⌝ }
+    ensures { λ _. ⌜ now (binds .exit) ≡ written (size Binds) (store bind) (now (binds .entry)) ⌝ }
+{
+    records::store(binds, BIND, &bind);
+}
+
+// Adds a bind, or says why not: it must not be there, and one record must be free.
+fn add(binds: &mut [u8], bind: [u8; 8]) -> Code
+    requires { ⌜ length (now binds) % size Binds ≡ 0 ⌝ }
+    ensures { λ r. ⌜ coded r (now (binds .exit)) ≡ coding (size Binds) (addition bind (table Binds (now (binds .entry)))) (store bind) (now (binds .entry)) ⌝ }
+{
+    let there = bind_there(binds, bind);
+    let room = records::has_room(binds, BIND);
+    let code = changing::addition(there, room);
+    if code.0 == Code::OK.0 {
+        store_bind(binds, bind);
+    }
+    code
+}
+
+// Add Bind: the payload's eight octets, if they meet the field rules.
+pub fn add_bind(devices: &[u8], binds: &mut [u8], groups: &[u8], payload: &[u8]) -> Code
+    requires { ⌜ (length (now payload) ≡ size Binds) × (length (now binds) % size Binds ≡ 0) ⌝ }
+    ensures { λ r. ⌜ coded r (now (binds .exit))
+        ≡ coding (size Binds) (ask (bindFits (table Devices (now (devices .entry))) (table Groups (now (groups .entry))) (bindOf (now (payload .entry))))
+        invalidArgument (addition (bindOf (now (payload .entry))) (table Binds (now (binds .entry)))))
+        (store (bindOf (now (payload .entry)))) (now (binds .entry)) ⌝ }
+{
+    let bind = payloads::bind_of(payload);
+    if !fitting::bind_fits(bind, devices, groups) {
+        return Code::invalid_argument();
+    }
+    add(binds, bind)
+}
+
+// Remove Bind and the four forms by ..: all binds whose part is the payload's become free.
+pub fn remove_binds(binds: &mut [u8], part: BindPart, payload: &[u8]) -> Code
+    requires { ⌜ (length (now payload) ≡ partLength part) × (length (now binds) % size Binds ≡ 0) ⌝ }
+    ensures { λ r. ⌜ coded r (now (binds .exit))
+        ≡ coding (size Binds) (removal (partIs part (wanted part (now (payload .entry)))) (table Binds (now (binds .entry))))
+        (wipe (partIs part (wanted part (now (payload .entry))))) (now (binds .entry)) ⌝ }
+{
+    let from = layouts::part_start(part);
+    if from != SOURCE {
+        return changing::remove(binds, BIND, from, payload);
+    }
+    let want = payloads::source_wanted(payload);
+    let n = payload.len();
+    changing::remove(binds, BIND, SOURCE, &want[..n])
+}

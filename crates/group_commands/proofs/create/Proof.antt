@@ -1,0 +1,16 @@
+-- `group_commands::create` meets its contract: what `create_group` and `write_created` answer, at the new address.
+use Rattle.group_commands.proofs.Grouped.{makes}
+use borrow.Author.Needs.{needs}
+use Rattle.group_commands.proofs.create.Statement.{statement}
+use Rattle.group_commands.proofs.create.Tie as tie
+
+returns : tie.Need-returns
+returns c =
+    let created = c .before .before .before .before .before .before in
+    makes _ _ _ (created .before .before .new-group .ensures) (created .create-group .ensures) (c .before .before .write-created .ensures)
+
+pub create-spec : {M : Type 1} → statement M
+create-spec =
+    tie.close
+    (tie.spec
+    (λ c κs. search needs) (λ c κs. search needs) (λ c κs. search needs) (λ c. search needs) (λ c. search needs) returns)

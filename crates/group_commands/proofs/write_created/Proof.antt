@@ -1,0 +1,25 @@
+-- `group_commands::write_created` meets its contract: the code, and the address behind 0x00.
+use mathlib.Core.Path.{refl}
+use borrow.Author.Tests.{eq-eqb, ne-eqb}
+use Rattle.rules.specs.Octets.{octets}
+use Rattle.rules.specs.Commands.{onOk}
+use borrow.Author.Needs.{needs}
+use Rattle.group_commands.proofs.write_created.Statement.{statement}
+use Rattle.group_commands.proofs.write_created.Tie as tie
+
+returns : tie.Need-returns
+unfolding onOk
+returns c = rw (ne-eqb _ _ (c .before .before .before .before .if1 .taken)) (c .before .before .write-code .ensures)
+
+returns-2 : tie.Need-returns-2
+unfolding onOk octets
+returns-2 c =
+    let low = c .before .before .before .before in
+    rw (eq-eqb _ _ (low .before .before .before .if1 .left), ← low .before .high .ensures, ← low .low .ensures) (refl, c .before .before .put .ensures)
+
+pub write-created-spec : {M : Type 1} → statement M
+write-created-spec =
+    tie.close
+    (tie.spec
+    (λ c κs. search needs) (λ c. search needs) returns (λ c κs. search needs) (λ c κs. search needs) (λ c. search needs) (λ c κs. search needs)
+    (λ c. search needs) (λ c. search needs) returns-2)

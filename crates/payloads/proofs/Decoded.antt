@@ -1,0 +1,51 @@
+-- Payloads octet by octet.
+use mathlib.Core.Path.{_≡_, refl, sym, ap, _∙_}
+use mathlib.Core.List.{List, [], _∷_, _++_}
+use Prim.Native.Nat.{ℕ, zero, suc, _+_, _*_, _%_, _≤_, _<_}
+use native.Mathlib.Omega.{arith}
+use lib.ListN.{length, getD, set, take, drop, drop-of-length-le}
+use lib.Seq.{drop-cons, take-append-seam}
+use Rattle.rules.specs.Octets.{octet, word, octets, ignoreTop, over}
+use Rattle.rules.specs.Payloads.{bindOf, memberOf, groupNamed}
+use Rattle.words.specs.Names.{group}
+
+-- n octets from place i on, one by one
+abbrev pub row : ℕ → ℕ → List ℕ → List ℕ
+row zero i s = []
+row (suc n) i s = getD s i 0 ∷ row n (suc i) s
+
+-- a list is its octets
+pub one-by-one : (n i : ℕ) (s : List ℕ) → i + n ≡ length s → drop i s ≡ row n i s
+one-by-one zero i s h =
+    let l : length s ≤ i = omega arith in
+    drop-of-length-le s l
+one-by-one (suc n) i s h = rw (drop-cons s i 0 (omega arith)) (ap (λ (r : List ℕ). getD s i 0 ∷ r) (one-by-one n (suc i) s (omega arith)))
+
+-- the first octet without its top bit, the others as they are
+pub ignore-first : (s : List ℕ) → 0 < length s → ignoreTop s ≡ getD s 0 0 % 128 ∷ drop 1 s
+unfolding ignoreTop
+ignore-first [] h = absurd (omega arith)
+ignore-first (o ∷ s) h = refl
+
+pub bind-octets : (p : List ℕ) → length p ≡ 8 → getD p 0 0 % 128 ∷ row 7 1 p ≡ bindOf p
+unfolding bindOf
+bind-octets p h = sym (ignore-first p (omega arith) ∙ rw (one-by-one 7 1 p (omega arith)))
+
+pub member-octets : (p : List ℕ) → length p ≡ 5 → getD p 0 0 % 128 ∷ getD p 1 0 ∷ getD p 2 0 % 128 ∷ row 2 3 p ≡ memberOf p
+unfolding memberOf ignoreTop
+member-octets p h = sym (ap (λ (q : List ℕ). ignoreTop (take 2 q) ++ ignoreTop (drop 2 q)) (one-by-one 5 0 p (omega arith)))
+
+pub group-octets : (p : List ℕ) → length p ≡ 2 → group (getD p 0 0 % 128 * 256 + getD p 1 0) ≡ groupNamed p
+unfolding groupNamed word
+group-octets p h = sym (rw (ignore-first p (omega arith), one-by-one 1 1 p (omega arith)))
+
+-- the payload in the first places of a longer run, its first octet without the top bit
+pub first-ignored : (p old : List ℕ) → 0 < length p → take (length p) (set (over p old) 0 (getD p 0 0 % 128)) ≡ ignoreTop p
+unfolding over ignoreTop
+first-ignored [] old h = absurd (omega arith)
+first-ignored (o ∷ p) old h = ap (λ (s : List ℕ). o % 128 ∷ s) (take-append-seam p (drop (suc (length p)) old))
+
+-- the first octet of nothing is 0
+pub first-of-none : (s : List ℕ) → length s ≡ 0 → 0 ≡ octet 0 s
+first-of-none [] h = refl
+first-of-none (o ∷ s) h = absurd (omega arith)
