@@ -5,7 +5,7 @@ use borrow.Fn.World
 use borrow.Fn.Kinds as K
 use denote.Triple.Clauses
 use denote.Ref.{now}
-use Rattle.rules.specs.Tables.{lent}
+use Rattle.rules.specs.Frame.{lent}
 use Rattle.gneissfold.specs.Numbers.{MessageTold, messageTold, HostTold, hostTold, CopyTold, copyTold, ReadTold, readTold}
 use Rattle.gneissfold.proofs.gneissfold_message
 use Rattle.gneissfold.proofs.gneissfold_message.Kinds as message-kinds
@@ -24,37 +24,48 @@ use Rattle.gneissfold.proofs.gneissfold_read.Kinds as read-kinds
 use Rattle.gneissfold.proofs.gneissfold_read.Reads as read-reads
 
 -- what a call tells and leaves: its number, what is lent to be written as it is at exit, the rest as it was lent
-abbrev message-tells : (κs : Lfts 8) (a : World.ArgsD gneissfold_message.signature κs) (r : World.ResD gneissfold_message.signature κs) (s : Clauses.AtExit (K.endedOf 8 message-kinds.ps message-kinds.r) κs) → MessageTold
-message-tells κs a r s = messageTold r (now (s .1 .1 .1 .1 .1 .1 .1 .0)) (lent (now (s .0)) (now (s .1 .0)) (now (s .1 .1 .0)) (now (s .1 .1 .1 .0))) (now (s .1 .1 .1 .1 .1 .0)) (now (s .1 .1 .1 .1 .1 .1 .0))
+abbrev message-tells : (κs : Lfts 8) (a : World.ArgsD gneissfold_message.signature κs)
+    (r : World.ResD gneissfold_message.signature κs) (s : Clauses.AtExit (K.endedOf 8 message-kinds.ps message-kinds.r) κs) → MessageTold
+message-tells κs a r s = messageTold r (now (s .1 .1 .1 .1 .1 .1 .1 .0))
+    (lent (now (s .0)) (now (s .1 .0)) (now (s .1 .1 .0)) (now (s .1 .1 .1 .0))) (now (s .1 .1 .1 .1 .1 .0)) (now (s .1 .1 .1 .1 .1 .1 .0))
 
-abbrev admit-tells : (κs : Lfts 4) (a : World.ArgsD gneissfold_admit.signature κs) (r : World.ResD gneissfold_admit.signature κs) (s : Clauses.AtExit (K.endedOf 4 admit-kinds.ps admit-kinds.r) κs) → HostTold
+abbrev admit-tells : (κs : Lfts 4) (a : World.ArgsD gneissfold_admit.signature κs) (r : World.ResD gneissfold_admit.signature κs)
+    (s : Clauses.AtExit (K.endedOf 4 admit-kinds.ps admit-kinds.r) κs) → HostTold
 admit-tells κs a r s = hostTold r (lent (now (s .0)) (now (a .1 .0)) (now (a .1 .1 .0)) (now (a .1 .1 .1 .0)))
 
-abbrev release-tells : (κs : Lfts 4) (a : World.ArgsD gneissfold_release.signature κs) (r : World.ResD gneissfold_release.signature κs) (s : Clauses.AtExit (K.endedOf 4 release-kinds.ps release-kinds.r) κs) → HostTold
+abbrev release-tells : (κs : Lfts 4) (a : World.ArgsD gneissfold_release.signature κs)
+    (r : World.ResD gneissfold_release.signature κs) (s : Clauses.AtExit (K.endedOf 4 release-kinds.ps release-kinds.r) κs) → HostTold
 release-tells κs a r s = hostTold r (lent (now (s .0)) (now (s .1 .0)) (now (a .1 .1 .0)) (now (s .1 .1 .1 .0)))
 
-abbrev copy-tells : (κs : Lfts 3) (a : World.ArgsD gneissfold_copy.signature κs) (r : World.ResD gneissfold_copy.signature κs) (s : Clauses.AtExit (K.endedOf 3 copy-kinds.ps copy-kinds.r) κs) → CopyTold
+abbrev copy-tells : (κs : Lfts 3) (a : World.ArgsD gneissfold_copy.signature κs) (r : World.ResD gneissfold_copy.signature κs)
+    (s : Clauses.AtExit (K.endedOf 3 copy-kinds.ps copy-kinds.r) κs) → CopyTold
 copy-tells κs a r s = copyTold r (now (s .1 .1 .1 .1 .0)) (now (s .1 .0))
 
-abbrev read-tells : (κs : Lfts 2) (a : World.ArgsD gneissfold_read.signature κs) (r : World.ResD gneissfold_read.signature κs) (s : Clauses.AtExit (K.endedOf 2 read-kinds.ps read-kinds.r) κs) → ReadTold
+abbrev read-tells : (κs : Lfts 2) (a : World.ArgsD gneissfold_read.signature κs) (r : World.ResD gneissfold_read.signature κs)
+    (s : Clauses.AtExit (K.endedOf 2 read-kinds.ps read-kinds.r) κs) → ReadTold
 read-tells κs a r s = readTold r (now (s .1 .0))
 
-pub message-once : (κs : Lfts 8) (a : World.ArgsD gneissfold_message.signature κs) (r r' : World.ResD gneissfold_message.signature κs) (s s' : Clauses.AtExit (K.endedOf 8 message-kinds.ps message-kinds.r) κs)
+pub message-once : (κs : Lfts 8) (a : World.ArgsD gneissfold_message.signature κs) (r r' : World.ResD gneissfold_message.signature κs)
+    (s s' : Clauses.AtExit (K.endedOf 8 message-kinds.ps message-kinds.r) κs)
     → message-reads.Post κs a r s → message-reads.Post κs a r' s' → message-tells κs a r s ≡ message-tells κs a r' s'
 message-once κs a r r' s s' p q = p ∙ sym q
 
-pub admit-once : (κs : Lfts 4) (a : World.ArgsD gneissfold_admit.signature κs) (r r' : World.ResD gneissfold_admit.signature κs) (s s' : Clauses.AtExit (K.endedOf 4 admit-kinds.ps admit-kinds.r) κs)
+pub admit-once : (κs : Lfts 4) (a : World.ArgsD gneissfold_admit.signature κs) (r r' : World.ResD gneissfold_admit.signature κs)
+    (s s' : Clauses.AtExit (K.endedOf 4 admit-kinds.ps admit-kinds.r) κs)
     → admit-reads.Post κs a r s → admit-reads.Post κs a r' s' → admit-tells κs a r s ≡ admit-tells κs a r' s'
 admit-once κs a r r' s s' p q = p ∙ sym q
 
-pub release-once : (κs : Lfts 4) (a : World.ArgsD gneissfold_release.signature κs) (r r' : World.ResD gneissfold_release.signature κs) (s s' : Clauses.AtExit (K.endedOf 4 release-kinds.ps release-kinds.r) κs)
+pub release-once : (κs : Lfts 4) (a : World.ArgsD gneissfold_release.signature κs) (r r' : World.ResD gneissfold_release.signature κs)
+    (s s' : Clauses.AtExit (K.endedOf 4 release-kinds.ps release-kinds.r) κs)
     → release-reads.Post κs a r s → release-reads.Post κs a r' s' → release-tells κs a r s ≡ release-tells κs a r' s'
 release-once κs a r r' s s' p q = p ∙ sym q
 
-pub copy-once : (κs : Lfts 3) (a : World.ArgsD gneissfold_copy.signature κs) (r r' : World.ResD gneissfold_copy.signature κs) (s s' : Clauses.AtExit (K.endedOf 3 copy-kinds.ps copy-kinds.r) κs)
+pub copy-once : (κs : Lfts 3) (a : World.ArgsD gneissfold_copy.signature κs) (r r' : World.ResD gneissfold_copy.signature κs)
+    (s s' : Clauses.AtExit (K.endedOf 3 copy-kinds.ps copy-kinds.r) κs)
     → copy-reads.Post κs a r s → copy-reads.Post κs a r' s' → copy-tells κs a r s ≡ copy-tells κs a r' s'
 copy-once κs a r r' s s' p q = p ∙ sym q
 
-pub read-once : (κs : Lfts 2) (a : World.ArgsD gneissfold_read.signature κs) (r r' : World.ResD gneissfold_read.signature κs) (s s' : Clauses.AtExit (K.endedOf 2 read-kinds.ps read-kinds.r) κs)
+pub read-once : (κs : Lfts 2) (a : World.ArgsD gneissfold_read.signature κs) (r r' : World.ResD gneissfold_read.signature κs)
+    (s s' : Clauses.AtExit (K.endedOf 2 read-kinds.ps read-kinds.r) κs)
     → read-reads.Post κs a r s → read-reads.Post κs a r' s' → read-tells κs a r s ≡ read-tells κs a r' s'
 read-once κs a r r' s s' p q = p ∙ sym q

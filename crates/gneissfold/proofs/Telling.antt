@@ -2,13 +2,13 @@
 use mathlib.Core.Path.{_≡_, ap}
 use mathlib.Core.List.{List}
 use Prim.Native.Nat.{ℕ}
-use Rattle.rules.specs.Outcomes.{numberOf, valueOf}
-use Rattle.rules.specs.Tables.{Lent}
+use Rattle.words.specs.Outcomes.{numberOf, valueOf}
+use Rattle.rules.specs.Frame.{Lent}
 use Rattle.rules.specs.Calls.{Answer, answer}
 use Rattle.rules.specs.Copy.{CopyAnswer, copyAnswer}
 use Rattle.rules.specs.Host.{HostAnswer, hostAnswer}
-use Rattle.rules.specs.declared.Outcome.{Outcome}
-use Rattle.rules.specs.declared.Reading.{Reading}
+use Rattle.words.specs.declared.Outcome.{Outcome}
+use Rattle.words.specs.declared.Reading.{Reading}
 use Rattle.gneissfold.specs.Numbers.{messageTold, ofMessage, hostTold, ofHost, copyTold, ofCopy, readTold, ofReading, twelve}
 
 pub message-tells : {o : Outcome} {L : Lent} {r l : List ℕ} {a : Answer} {n c : ℕ}

@@ -1,13 +1,14 @@
--- What the exported calls answer: the answers of `rules`, with the outcome as the paper's number (document 01, Outcomes) and the count or length that goes with it.
+-- What the exported calls answer: the answers of `rules`, with the outcome as the paper's number (document 01, Outcomes) and the count or length that
+-- goes with it.
 use mathlib.Core.List.{List, [], _∷_}
 use Prim.Native.Nat.{ℕ}
-use Rattle.rules.specs.Outcomes.{numberOf, valueOf}
-use Rattle.rules.specs.Tables.{Lent}
+use Rattle.words.specs.Outcomes.{numberOf, valueOf}
+use Rattle.rules.specs.Frame.{Lent}
 use Rattle.rules.specs.Calls.{Answer}
 use Rattle.rules.specs.Copy.{CopyAnswer}
 use Rattle.rules.specs.Host.{HostAnswer}
-use Rattle.rules.specs.declared.Fields.{Fields}
-use Rattle.rules.specs.declared.Reading.{Reading}
+use Rattle.words.specs.declared.Fields.{Fields}
+use Rattle.words.specs.declared.Reading.{Reading}
 
 -- of a message: outcome number, reply length or recipient count, and every octet lent
 pub record MessageTold : Type 0 where
@@ -56,7 +57,7 @@ readTold n fs = record { number = n; fields = fs }
 
 unfoldable pub twelve : Fields → List ℕ
 twelve f =
-    f .source .0 ∷ f .«source_unit» ∷ f .«address_type» ∷ f .destination ∷ f .«destination_unit» ∷ f .«app_ref» ∷ f .kind
+    f .source .0 ∷ f .«source_unit» ∷ f .«address_type» ∷ f .destination ∷ f .«destination_unit» ∷ f .«app_ref» ∷ f .«message_type»
     ∷ f .«interface_type» ∷ f .uid ∷ f .member ∷ f .«data_length» ∷ f .payload ∷ []
 
 abbrev pub ofReading : Reading → ReadTold

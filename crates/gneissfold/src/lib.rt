@@ -1,10 +1,11 @@
 // The calls for C and Rust (include/gneissfold.h, bindings/rust). Each hands on what is lent to it to a call of `hub`, and tells the
 // answer in numbers: the paper's outcome number is returned, a length or count goes where the caller points.
 // No call requires anything: each answers on any octets and any lengths.
-use rules::DeviceAddress;
-use rules::Fields;
+use words::DeviceAddress;
+use words::Fields;
 ghost use mathlib.Core.Path.{_≡_};
-ghost use Rattle.rules.specs.Tables.{lent};
+ghost use Rattle.words.specs.Names.{device};
+ghost use Rattle.rules.specs.Frame.{lent};
 ghost use Rattle.rules.specs.Calls.{message};
 ghost use Rattle.rules.specs.Copy.{copy};
 ghost use Rattle.rules.specs.Host.{admit, release};
@@ -45,7 +46,7 @@ pub extern "C" fn gneissfold_admit(
     highest: u8,
 ) -> u8
     ensures { λ r. ⌜ hostTold r (lent (now (devices .exit)) (now (binds .entry)) (now (groups .entry)) (now (members .entry)))
-        ≡ ofHost (admit (lent (now (devices .entry)) (now (binds .entry)) (now (groups .entry)) (now (members .entry))) address rights highest) ⌝ }
+        ≡ ofHost (admit (lent (now (devices .entry)) (now (binds .entry)) (now (groups .entry)) (now (members .entry))) (device address) rights highest) ⌝ }
 {
     let outcome = hub::admit(
         devices,
@@ -69,7 +70,7 @@ pub extern "C" fn gneissfold_release(
     address: u16,
 ) -> u8
     ensures { λ r. ⌜ hostTold r (lent (now (devices .exit)) (now (binds .exit)) (now (groups .entry)) (now (members .exit)))
-        ≡ ofHost (release (lent (now (devices .entry)) (now (binds .entry)) (now (groups .entry)) (now (members .entry))) address) ⌝ }
+        ≡ ofHost (release (lent (now (devices .entry)) (now (binds .entry)) (now (groups .entry)) (now (members .entry))) (device address)) ⌝ }
 {
     let outcome = hub::release(devices, binds, groups, members, DeviceAddress(address));
     outcome.number()
@@ -80,14 +81,14 @@ pub extern "C" fn gneissfold_release(
 pub extern "C" fn gneissfold_copy(
     msg: &[u8],
     room: &mut [u8],
-    device: u16,
+    to: u16,
     unit: u8,
     length: &mut usize,
 ) -> u8
     ensures { λ r. ⌜ copyTold r (now (length .exit)) (now (room .exit))
-        ≡ ofCopy (copy (now (msg .entry)) (now (room .entry)) device unit) ⌝ }
+        ≡ ofCopy (copy (now (msg .entry)) (now (room .entry)) (device to) unit) ⌝ }
 {
-    let outcome = hub::copy(msg, room, DeviceAddress(device), unit);
+    let outcome = hub::copy(msg, room, DeviceAddress(to), unit);
     *length = outcome.value();
     outcome.number()
 }
@@ -110,7 +111,7 @@ fn numbers(f: Fields) -> [u16; 12]
         f.destination,
         wide(f.destination_unit),
         wide(f.app_ref),
-        wide(f.kind),
+        wide(f.message_type),
         f.interface_type,
         f.uid,
         wide(f.member),

@@ -1,58 +1,84 @@
--- What the acting parts leave is the message's answer: a refusal, a served command, a list of recipients.
-use mathlib.Core.Path.{_≡_, refl, sym, ap, _∙_}
-use mathlib.Core.Bool.{true}
-use mathlib.Core.List.{List, [], _∷_, _++_, flatMap}
-use Prim.Native.Nat.{ℕ, suc, _+_, _-_, _≤_}
+-- What the acting parts leave is the message's answer: a refusal, a command that is handled, a list of recipients.
+use mathlib.Core.Path.{_≡_, ap}
+use mathlib.Core.List.{List, [], _∷_, flatMap}
+use Prim.Native.Nat.{ℕ, _+_, _-_, _*_, _≤_}
 use native.Mathlib.Omega.{arith}
-use lib.ListN.{length, drop}
-use borrow.Rule.Slice.PartMut.{putMid}
+use borrow.Author.Tests.{leb-true}
+use borrow.Rule.Slice.PartMut.{midOf, putMid}
+use lib.ListN.{length, drop, length-drop}
+use lib.Seq.{length-take-le}
+use Rattle.words.specs.Names.{headerLength, longest}
+use Rattle.words.specs.declared.Fields.{Fields}
+use Rattle.words.specs.declared.Command.{Command}
+use Rattle.words.specs.declared.Destination.{Destination}
+use Rattle.words.specs.declared.Kind.the-variants.{Binds, Members}
+use Rattle.words.specs.declared.Outcome.{Outcome}
+use Rattle.words.specs.declared.Outcome.the-variants.{Done, Forwarded, Nobody}
+use Rattle.words.specs.declared.Way.the-variants.{Refuse, Serve, Forward}
 use Rattle.rules.specs.Octets.{over}
 use Rattle.rules.specs.Units.{unitOctets}
-use Rattle.rules.specs.Message.{source, fields, lengthFits, readable, payload, headerLength, longest, header, answering, reply}
-use Rattle.rules.specs.Tables.{Lent, tables, changed}
-use Rattle.rules.specs.Commands.{done, replyPayload}
+use Rattle.rules.specs.Frame.{Lent, tables, changed}
+use Rattle.rules.specs.Message.{fields, payload, reads, reading, header, answering}
 use Rattle.rules.specs.Recipients.{recipients}
-use Rattle.rules.specs.Calls.{way, Answer, answer, served, forwarded, follow, message}
-use Rattle.rules.specs.declared.Fields.{Fields}
-use Rattle.rules.specs.declared.Command.{Command}
-use Rattle.rules.specs.declared.Destination.{Destination}
-use Rattle.rules.specs.declared.Outcome.{Outcome}
-use Rattle.rules.specs.declared.Outcome.the-variants.{Done, Forwarded, Nobody}
-use Rattle.rules.specs.declared.Way.the-variants.{Refuse, Serve, Forward}
-use Rattle.rules.proofs.Lists.{split}
-use Rattle.messages.proofs.Replies.{reply-behind}
-use Rattle.commands.specs.Perform.{Performed, performed, performance}
-use Rattle.commands.proofs.Performing.{payload-short}
-use Rattle.delivery.specs.Listing.{Listing}
-use Rattle.delivery.specs.Delivering.{bindsAndMembers}
-use Rattle.delivery.proofs.Delivering.{recipients-read}
+use Rattle.rules.specs.Commands.{judge, done, replyPayload}
+use Rattle.rules.specs.Calls.{roomy, way, Answer, answer, answered, handled, forwarded, follow, message}
+use Rattle.rules.proofs.Lists.{split, ask-pass}
+use Rattle.rules.proofs.Ways.{Acting}
+use Rattle.messages.proofs.Replies.{reply-behind, within-room}
+use Rattle.commands.specs.Perform.{Performed, performed, performing}
+use Rattle.units.specs.Listing.{Listing}
 use Rattle.hub.specs.Acting.{nothingLent}
 
--- what can be read is of a length that fits
-pub readable-length : (m : List ℕ) → readable m ≡ true → lengthFits m ≡ true
-unfolding readable
-readable-length m h = split (split h .0) .0
+-- What is known behind a way that acts
+
+module _ {L : Lent} {m r l : List ℕ} (a : Acting L m r l) where
+  -- the fields that were read are the message's
+  pub fields-read : {f : Fields} → f ≡ reading m .fields → f ≡ fields m
+  unfolding reading reads
+  fields-read e = rw (ask-pass _ _ (a .length), ask-pass _ _ (a .data-length), ask-pass _ _ (a .type)) at e
+
+  -- the reply has room for the longest
+  pub reply-room : longest ≤ length r
+  unfolding roomy
+  reply-room = leb-true longest (length r) (split (a .roomy) .0)
 
 -- Serving
 
--- a performed command's payload fits behind the header
-pub performed-short : (L : Lent) (s : ℕ) (k : Command) (p out : List ℕ) {n : ℕ} {L' : Lent} {out' : List ℕ} → length (L .members) ≤ 640
-    → performed n L' out' ≡ performance L s k p out → n ≤ 485
-unfolding performance
-performed-short L s k p out h d = omega (arith, ap (λ (y : Performed). y .length) d, payload-short L s k p h)
+-- the part of the reply that a handler is lent: all that the longest reply has behind its header
+abbrev behind : List ℕ → List ℕ
+behind old = midOf headerLength (longest - headerLength) old
 
--- the payload behind, the header before it
-pub serves : (L : Lent) (k : Command) (m old : List ℕ) {L' : Lent} {part : List ℕ} {n : ℕ} {f : Fields} → f ≡ fields m → longest ≤ length old
-    → performed n L' part ≡ performance L (f .source .0) k (drop 15 m) (drop 15 old)
-    → answer (Done (15 + n)) L' (over (header (answering f n)) (putMid 15 (length old - 15) old part)) [] ≡ served L k m old []
-unfolding served performance payload fields
-serves L k m old {L'} {part} {n} {f} e h d =
-    let p : List ℕ = replyPayload (tables L) (source m) k (drop 15 m) in
-    let d' : performed n L' part ≡ performance L (source m) k (drop 15 m) (drop 15 old) = rw (ap (λ (g : Fields). g .source .0) e) at d in
-    let en : n ≡ length p = ap (λ (y : Performed). y .length) d' in
-    let eL : L' ≡ changed (done (tables L) (source m) k (drop 15 m)) L = ap (λ (y : Performed). y .tables) d' in
-    let ep : part ≡ over p (drop 15 old) = ap (λ (y : Performed). y .out) d' in
-    rw (e, en, eL, reply-behind m p old part (omega arith) ep)
+behind-length : (old : List ℕ) → longest ≤ length old → length (behind old) ≡ longest - headerLength
+behind-length old h = length-take-le (longest - headerLength) (drop headerLength old) (rw length-drop (omega arith))
+
+module _ (L : Lent) (k : Command) (f : Fields) (p old : List ℕ) {L' : Lent} {part : List ℕ} {n : ℕ} (h : longest ≤ length old)
+    (s : length part ≡ length (behind old)) (d : performed n L' part ≡ performing L k p (judge (tables L) (f .source) k p) (behind old)) where
+  abbrev payloadOf : List ℕ
+  payloadOf = replyPayload (tables L) k p (judge (tables L) (f .source) k p)
+
+  written-length : n ≡ length payloadOf
+  unfolding performing
+  written-length = ap (λ (y : Performed). y .length) d
+
+  written-over : part ≡ over payloadOf (behind old)
+  unfolding performing
+  written-over = ap (λ (y : Performed). y .out) d
+
+  -- what was performed had room there
+  pub performed-short : headerLength + n ≤ longest
+  performed-short = omega (arith, within-room payloadOf (behind old) written-over s, written-length, behind-length old h)
+
+  -- the payload behind, the header before it
+  pub serves : answer (Done (headerLength + n)) L' (over (header (answering f n)) (putMid headerLength (longest - headerLength) old part)) []
+      ≡ handled L k f p old []
+  unfolding handled answered performing
+  serves =
+      let eL : L' ≡ changed (done (tables L) k p (judge (tables L) (f .source) k p)) L = ap (λ (y : Performed). y .tables) d in
+      rw (
+        written-length,
+        eL,
+        reply-behind (longest - headerLength) f payloadOf old part (omega arith) (omega (arith, performed-short, written-length)) written-over,
+      )
 
 -- Forwarding
 
@@ -73,17 +99,16 @@ module _ (L : Lent) (m r l : List ℕ) where
   unfolding message follow
   refuses w = rw w
 
-  pub served-whole : {k : Command} {o : Outcome} {L' : Lent} {r' : List ℕ} → way L m r l ≡ Serve k → answer o L' r' [] ≡ served L k m r []
-      → answer o L' r' l ≡ message L m r l
-  unfolding message follow served
-  served-whole {k} {o} {L'} {r'} w a = rw w (ap (λ (x : Answer). answer (x .outcome) (x .tables) (x .reply) l) a)
+  pub handled-whole : {k : Command} {f : Fields} {o : Outcome} {L' : Lent} {r' : List ℕ} → way L m r l ≡ Serve k → f ≡ fields m
+      → answer o L' r' [] ≡ handled L k f (drop headerLength m) r [] → answer o L' r' l ≡ message L m r l
+  unfolding message follow handled answered payload
+  handled-whole {k} {f} {o} {L'} {r'} w e a = rw (w, ← e) (ap (λ (x : Answer). answer (x .outcome) (x .tables) (x .reply) l) a)
 
   -- what is listed does not depend on what else is lent
-  pub forwarded-whole : {to : Destination} {o : Outcome} {l' : List ℕ} → way L m r l ≡ Forward to
-      → answer o nothingLent [] l' ≡ forwarded (recipients (bindsAndMembers (L .binds) (L .members)) to m) nothingLent [] l → answer o L r l' ≡ message L m r l
+  pub forwarded-whole : {to : Destination} {f : Fields} {o : Outcome} {l' : List ℕ} → way L m r l ≡ Forward to → f ≡ fields m
+      → answer o nothingLent [] l' ≡ forwarded (recipients (tables L Binds) (tables L Members) to f) nothingLent [] l → answer o L r l' ≡ message L m r l
   unfolding message follow forwarded
-  forwarded-whole {to} {o} {l'} w a =
-      rw (w, recipients-read L to m) (step (recipients (bindsAndMembers (L .binds) (L .members)) to m) a)
+  forwarded-whole {to} {f} {o} {l'} w e a = rw (w, ← e) (step (recipients (tables L Binds) (tables L Members) to f) a)
     where
       step : (us : List ℕ) → answer o nothingLent [] l' ≡ forwarded us nothingLent [] l → answer o L r l' ≡ forwarded us L r l
       step [] a = ap (λ (x : Answer). answer (x .outcome) L r (x .list)) a

@@ -1,5 +1,3 @@
 -- The laws that the proofs of this crate and of those above it cite.
-pub mod Ways
-pub mod Hosting
-pub mod Once
 pub mod Acts
+pub mod Once

@@ -1,3 +1,2 @@
--- The definitions that the contracts of `hub` cite beside those of `rules`.
-pub mod Behind
+-- What the contracts of this crate cite besides the rules.
 pub mod Acting

@@ -1,31 +1,52 @@
 // What the program `links` prints for its input, made over lent buffers (document 01, Rows to try).
-ghost use mathlib.Core.Path.{_≡_};
+use words::Fields;
 ghost use Prim.Native.Nat.{_≤_};
 ghost use lib.ListN.{length};
 ghost use Rattle.report.specs.Text.{Printed};
-ghost use Rattle.links_text.specs.Printing.{printed};
+ghost use Rattle.links_text.specs.Printing.{allTables, printed};
+
+// The tables at full size.
+const DEVICES: usize = layouts::MOST_DEVICES * layouts::DEVICE;
+
+const BINDS: usize = layouts::MOST_BINDS * layouts::BIND;
+
+const GROUPS: usize = layouts::MOST_GROUPS * layouts::GROUP;
+
+const MEMBERS: usize = layouts::MOST_MEMBERS * layouts::MEMBER;
+
+// Where each but the first begins in the input, and the message behind them.
+const AT_BINDS: usize = DEVICES;
+
+const AT_GROUPS: usize = AT_BINDS + BINDS;
+
+const AT_MEMBERS: usize = AT_GROUPS + GROUPS;
+
+const AT_MESSAGE: usize = AT_MEMBERS + MEMBERS;
+
+// The list has room for every bind and every member.
+const LIST: usize = 3 * (layouts::MOST_BINDS + layouts::MOST_MEMBERS);
 
 // The text for a whole input: the tables are copied out of it, since a call may change them.
 fn answer(input: &[u8], text: &mut [u8]) -> usize
-    requires { ⌜ (1664 ≤ length (now input)) × (2048 ≤ length (now text)) ⌝ }
+    requires { ⌜ (allTables ≤ length (now input)) × (2048 ≤ length (now text)) ⌝ }
     ensures { λ r. ⌜ Printed (printed (now (input .entry))) (now (text .entry)) r (now (text .exit)) ⌝ }
 {
-    let mut devices = [0u8; 256];
-    let mut binds = [0u8; 512];
-    let mut groups = [0u8; 256];
-    let mut members = [0u8; 640];
-    octets::put(&mut devices, &input[0..256]);
-    octets::put(&mut binds, &input[256..768]);
-    octets::put(&mut groups, &input[768..1024]);
-    octets::put(&mut members, &input[1024..1664]);
-    let mut reply = [0u8; 500];
-    let mut list = [0u8; 576];
+    let mut devices = [0u8; DEVICES];
+    let mut binds = [0u8; BINDS];
+    let mut groups = [0u8; GROUPS];
+    let mut members = [0u8; MEMBERS];
+    octets::put(&mut devices, &input[0..AT_BINDS]);
+    octets::put(&mut binds, &input[AT_BINDS..AT_GROUPS]);
+    octets::put(&mut groups, &input[AT_GROUPS..AT_MEMBERS]);
+    octets::put(&mut members, &input[AT_MEMBERS..AT_MESSAGE]);
+    let mut reply = [0u8; Fields::LONGEST];
+    let mut list = [0u8; LIST];
     let outcome = hub::message(
         &mut devices,
         &mut binds,
         &mut groups,
         &mut members,
-        &input[1664..],
+        &input[AT_MESSAGE..],
         &mut reply,
         &mut list,
     );
@@ -37,7 +58,7 @@ pub fn print(input: &[u8], text: &mut [u8]) -> usize
     requires { ⌜ 2048 ≤ length (now text) ⌝ }
     ensures { λ r. ⌜ Printed (printed (now (input .entry))) (now (text .entry)) r (now (text .exit)) ⌝ }
 {
-    if input.len() < 1664 {
+    if input.len() < AT_MESSAGE {
         return report::write_short(text);
     }
     answer(input, text)

@@ -73,7 +73,8 @@ hex-length [] = refl
 hex-length (o ∷ s) = let e = hex-length s in omega arith
 
 pub next-recipient : (l : List ℕ) (n i : ℕ) → i < n
-    → recipientLines (n - i) (drop (3 * i) l) ≡ recipientLine (getD l (3 * i) 0) (getD l (3 * i + 1) 0) (getD l (3 * i + 2) 0) ++ recipientLines (n - (i + 1)) (drop (3 * (i + 1)) l)
+    → recipientLines (n - i) (drop (3 * i) l)
+    ≡ recipientLine (getD l (3 * i) 0) (getD l (3 * i + 1) 0) (getD l (3 * i + 2) 0) ++ recipientLines (n - (i + 1)) (drop (3 * (i + 1)) l)
 unfolding recipientLines
 next-recipient l n i h =
     let e : n - i ≡ suc (n - (i + 1)) = omega arith in

@@ -2,8 +2,8 @@
 use mathlib.Core.Path.{_≡_, refl}
 use mathlib.Core.List.{List, [], _∷_, flatMap}
 use Prim.Native.Nat.{ℕ}
-use Rattle.rules.specs.declared.Outcome.{Outcome}
-use Rattle.rules.specs.declared.Outcome.the-variants.{Done, Forwarded, Nobody, NotAdmitted}
+use Rattle.words.specs.declared.Outcome.{Outcome}
+use Rattle.words.specs.declared.Outcome.the-variants.{Done, Forwarded, Nobody, NotAdmitted}
 use Rattle.report.specs.Text.{ascii, digit, decimal, firstLine, hexLine, recipientLines, valueIf, answerText}
 
 pub record Row : Type 0 where

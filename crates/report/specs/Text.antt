@@ -9,8 +9,8 @@ use lib.Dec.{eqb, ltb}
 use lib.ListN.{length, take, drop}
 use lib.Seq.{sets}
 use Rattle.rules.specs.Octets.{octet, over}
-use Rattle.rules.specs.Outcomes.{numberOf, valueOf}
-use Rattle.rules.specs.declared.Outcome.{Outcome}
+use Rattle.words.specs.Outcomes.{numberOf, valueOf}
+use Rattle.words.specs.declared.Outcome.{Outcome}
 
 -- a text's octets
 abbrev pub ascii : String → List ℕ

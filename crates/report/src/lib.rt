@@ -1,5 +1,5 @@
 // The text that programs print, written piece by piece into a lent buffer: each writer starts at a place and returns the place behind what it wrote.
-use rules::Outcome;
+use words::Outcome;
 ghost use mathlib.Core.Path.{_≡_};
 ghost use mathlib.Core.List.{flatMap};
 ghost use Prim.Native.Nat.{_+_, _*_, _<_, _≤_};

@@ -1,245 +1,135 @@
 // The rows of document 01 that are to be run (Rows to try): lengths 500 and 501, a full table and one removal, names of 13 and 14 octets.
+// Each step sends one message over the same tables: steps 0 and 1 the lengths, 2 to 65 the sixty-four binds that fill the table, of which nothing is
+// printed, 66 to 68 a bind more, a removal and that bind again, 69 and 70 the names.
 use libc::STDOUT_FILENO;
-use rules::DeviceAddress;
+ghost use mathlib.Core.Path.{_≡_};
+ghost use Prim.Native.Nat.{_≤_};
+ghost use lib.ListN.{length};
+
+// These octets, and zeros behind them.
+fn padded(start: &[u8]) -> [u8; 501]
+    requires { ⌜ length (now start) ≤ 501 ⌝ }
+    ensures { λ r. ⌜ length r ≡ 501 ⌝ }
+{
+    let mut msg = [0u8; 501];
+    octets::put(&mut msg, start);
+    msg
+}
+
+// From 3:01 to 4:02, with a payload of 485 or 486 octets.
+fn long(low: u8) -> [u8; 501]
+    ensures { λ r. ⌜ length r ≡ 501 ⌝ }
+{
+    let mut msg = padded(b"\x00\x03\x01\x00\x04\x02\x00\x00\x00\x01\x00\x00\x00\x01");
+    msg[14] = low;
+    msg
+}
 
 // Add Bind (member 1) or Remove Bind (member 2) of the bind from 3:01, server, this UID, to D'4:U'02.
-fn bind_message(member: u8, uid: u8) -> [u8; 23] {
-    [
-        0,
-        3,
-        1,
-        0,
-        0,
-        0,
-        0,
-        0,
-        7,
-        1,
-        0x80,
-        2,
-        member,
-        0,
-        8,
-        0,
-        3,
-        1,
-        0x82,
-        uid,
-        0,
-        4,
-        2,
-    ]
+fn bind(member: u8, uid: u8) -> [u8; 501]
+    ensures { λ r. ⌜ length r ≡ 501 ⌝ }
+{
+    let mut msg = padded(
+        b"\x00\x03\x01\x00\x00\x00\x00\x00\x07\x01\x80\x02\x01\x00\x08\x00\x03\x01\x82\x00\x00\x04\x02",
+    );
+    msg[12] = member;
+    msg[19] = uid;
+    msg
 }
 
-// Create Group with a name of 13 letters.
-fn thirteen() -> [u8; 29] {
-    [
-        0,
-        3,
-        1,
-        0,
-        0,
-        0,
-        0,
-        0,
-        7,
-        1,
-        0x80,
-        3,
-        1,
-        0,
-        14,
-        13,
-        65,
-        65,
-        65,
-        65,
-        65,
-        65,
-        65,
-        65,
-        65,
-        65,
-        65,
-        65,
-        65,
-    ]
+// Create Group with a name of this many letters, at most 14; the payload has one octet more.
+fn name(payload: u8, letters: u8) -> [u8; 501]
+    ensures { λ r. ⌜ length r ≡ 501 ⌝ }
+{
+    let mut msg = padded(
+        b"\x00\x03\x01\x00\x00\x00\x00\x00\x07\x01\x80\x03\x01\x00\x00\x00AAAAAAAAAAAAAA",
+    );
+    msg[14] = payload;
+    msg[15] = letters;
+    msg
 }
 
-// Create Group with a name of 14 letters.
-fn fourteen() -> [u8; 30] {
-    [
-        0,
-        3,
-        1,
-        0,
-        0,
-        0,
-        0,
-        0,
-        7,
-        1,
-        0x80,
-        3,
-        1,
-        0,
-        15,
-        14,
-        65,
-        65,
-        65,
-        65,
-        65,
-        65,
-        65,
-        65,
-        65,
-        65,
-        65,
-        65,
-        65,
-        65,
-    ]
+fn message_of(step: u8) -> [u8; 501]
+    ensures { λ r. ⌜ length r ≡ 501 ⌝ }
+{
+    match step {
+        0 => long(0xE5),
+        1 => long(0xE6),
+        67 => bind(2, 9),
+        68 => bind(1, 64),
+        69 => name(14, 13),
+        70 => name(15, 14),
+        _ => bind(1, step - 2),
+    }
+}
+
+fn length_of(step: u8) -> usize
+    ensures { λ r. ⌜ r ≤ 501 ⌝ }
+{
+    match step {
+        0 => 500,
+        1 => 501,
+        69 => 29,
+        70 => 30,
+        _ => 23,
+    }
+}
+
+// Writes what was tried, up to its outcome, as `io::write_all` does.
+fn write_label(step: u8) -> bool {
+    match step {
+        0 => io::write_all(STDOUT_FILENO, b"500 octets: outcome "),
+        1 => io::write_all(STDOUT_FILENO, b"501 octets: outcome "),
+        66 => io::write_all(STDOUT_FILENO, b"the 65th bind: outcome "),
+        67 => io::write_all(STDOUT_FILENO, b"one removal: outcome "),
+        68 => io::write_all(STDOUT_FILENO, b"the 65th bind again: outcome "),
+        69 => io::write_all(STDOUT_FILENO, b"a name of 13: outcome "),
+        _ => io::write_all(STDOUT_FILENO, b"a name of 14: outcome "),
+    }
 }
 
 // A line: what was tried, the outcome, and octet 16 of the reply, its code.
-fn say(label: &[u8], outcome: u8, code: u8) {
-    io::write_all(STDOUT_FILENO, label);
-    io::write_all(STDOUT_FILENO, b": outcome ");
+fn say(step: u8, outcome: u8, code: u8) {
+    if (step >= 2) & (step < 66) {
+        return;
+    }
+    write_label(step);
     io::print_decimal(STDOUT_FILENO, outcome as u64);
     io::write_all(STDOUT_FILENO, b" code ");
     io::print_decimal(STDOUT_FILENO, code as u64);
     io::write_all(STDOUT_FILENO, b"\n");
 }
 
-// Sixty-four binds fill the table.
-fn fill(
-    devices: &mut [u8],
-    binds: &mut [u8],
-    groups: &mut [u8],
-    members: &mut [u8],
-    reply: &mut [u8],
-    list: &mut [u8],
-) {
-    let mut uid = 0u8;
-    while uid < 64 {
-        let add = bind_message(1, uid);
-        hub::message(devices, binds, groups, members, &add, reply, list);
-        uid += 1;
-    }
+// Devices 3, with rights, and 4, each with the units 0 to 2; all other records are free.
+fn two_devices() -> [u8; 256]
+    ensures { λ r. ⌜ length r ≡ 256 ⌝ }
+{
+    let mut devices = [0xFFu8; 256];
+    octets::put(&mut devices, b"\x00\x03\x01\x02\x00\x04\x00\x02");
+    devices
 }
 
 fn main() {
-    let mut devices = [0xFFu8; 256];
+    let mut devices = two_devices();
     let mut binds = [0xFFu8; 512];
     let mut groups = [0xFFu8; 256];
     let mut members = [0xFFu8; 640];
     let mut reply = [0u8; 500];
     let mut list = [0u8; 576];
-    hub::admit(
-        &mut devices,
-        &binds,
-        &groups,
-        &members,
-        DeviceAddress(3),
-        1,
-        2,
-    );
-    hub::admit(
-        &mut devices,
-        &binds,
-        &groups,
-        &members,
-        DeviceAddress(4),
-        0,
-        2,
-    );
-    // From 3:01 to 4:02, with a payload of 485 and of 486 octets.
-    let mut long = [0u8; 501];
-    long[1] = 3;
-    long[2] = 1;
-    long[4] = 4;
-    long[5] = 2;
-    long[9] = 1;
-    long[13] = 1;
-    long[14] = 0xE5;
-    let accepted = hub::message(
-        &mut devices,
-        &mut binds,
-        &mut groups,
-        &mut members,
-        &long[..500],
-        &mut reply,
-        &mut list,
-    );
-    say(b"500 octets", accepted.number(), reply[15]);
-    long[14] = 0xE6;
-    let refused = hub::message(
-        &mut devices,
-        &mut binds,
-        &mut groups,
-        &mut members,
-        &long,
-        &mut reply,
-        &mut list,
-    );
-    say(b"501 octets", refused.number(), reply[15]);
-    fill(
-        &mut devices,
-        &mut binds,
-        &mut groups,
-        &mut members,
-        &mut reply,
-        &mut list,
-    );
-    let full = hub::message(
-        &mut devices,
-        &mut binds,
-        &mut groups,
-        &mut members,
-        &bind_message(1, 64),
-        &mut reply,
-        &mut list,
-    );
-    say(b"the 65th bind", full.number(), reply[15]);
-    let removed = hub::message(
-        &mut devices,
-        &mut binds,
-        &mut groups,
-        &mut members,
-        &bind_message(2, 9),
-        &mut reply,
-        &mut list,
-    );
-    say(b"one removal", removed.number(), reply[15]);
-    let again = hub::message(
-        &mut devices,
-        &mut binds,
-        &mut groups,
-        &mut members,
-        &bind_message(1, 64),
-        &mut reply,
-        &mut list,
-    );
-    say(b"the 65th bind again", again.number(), reply[15]);
-    let fits = hub::message(
-        &mut devices,
-        &mut binds,
-        &mut groups,
-        &mut members,
-        &thirteen(),
-        &mut reply,
-        &mut list,
-    );
-    say(b"a name of 13", fits.number(), reply[15]);
-    let long_name = hub::message(
-        &mut devices,
-        &mut binds,
-        &mut groups,
-        &mut members,
-        &fourteen(),
-        &mut reply,
-        &mut list,
-    );
-    say(b"a name of 14", long_name.number(), reply[15]);
+    let mut step = 0u8;
+    while step < 71 {
+        let msg = message_of(step);
+        let n = length_of(step);
+        let outcome = hub::message(
+            &mut devices,
+            &mut binds,
+            &mut groups,
+            &mut members,
+            &msg[..n],
+            &mut reply,
+            &mut list,
+        );
+        say(step, outcome.number(), reply[15]);
+        step += 1;
+    }
 }

@@ -11,7 +11,4 @@ pub gneissfold-read-spec : {M : Type 1} → statement M
 gneissfold-read-spec =
     tie.close
     (tie.spec
-    (λ c κs. search needs)
-    (λ c κs. search needs)
-    (λ c κs. search needs)
-    returns)
+    (λ c κs. search needs) (λ c κs. search needs) (λ c κs. search needs) returns)

@@ -4,11 +4,7 @@ use Rattle.report.proofs.recipient_line.Statement.{statement}
 use Rattle.report.proofs.recipient_line.Tie as tie
 
 pub recipient-line-spec : {M : Type 1} → statement M
-recipient-line-spec = tie.close (tie.spec
-    (λ c κs. search needs)
-    (λ c κs. search needs)
-    (λ c κs. search needs)
-    (λ c κs. search needs)
-    (λ c κs. search needs)
-    (λ c κs. search needs)
+recipient-line-spec = tie.close
+    (tie.spec
+    (λ c κs. search needs) (λ c κs. search needs) (λ c κs. search needs) (λ c κs. search needs) (λ c κs. search needs) (λ c κs. search needs)
     (λ c. cc))

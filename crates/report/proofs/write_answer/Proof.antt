@@ -6,7 +6,7 @@ use lib.Seq.{length-take-le}
 use denote.Ref.{now}
 use borrow.Author.Needs.{needs}
 use borrow.Author.Tests.{eq-eqb, ne-eqb}
-use Rattle.rules.specs.Outcomes.{numberOf}
+use Rattle.words.specs.Outcomes.{numberOf}
 use Rattle.report.specs.Text.{firstLine, countOf, answerText, Wrote}
 use Rattle.report.proofs.Decimal.{first-line-length}
 use Rattle.report.proofs.Pieces.{wrote-more, wrote-all}
@@ -17,7 +17,8 @@ abbrev start : tie.After-write-first-line → tie.Start
 start w = w .before .before .before .before .before .before .before
 
 begun : (w : tie.After-write-first-line)
-    → Wrote (firstLine (numberOf (start w .args .outcome)) (countOf (start w .args .outcome))) (now (start w .args .text)) 0 (w .write-first-line .result) (w .write-first-line .last .0)
+    → Wrote (firstLine (numberOf (start w .args .outcome)) (countOf (start w .args .outcome))) (now (start w .args .text)) 0
+    (w .write-first-line .result) (w .write-first-line .last .0)
 begun w = rw (← w .before .before .before .number .ensures, ← w .before .before .value-if .ensures) (w .write-first-line .ensures)
 
 short : (w : tie.After-write-first-line) → w .write-first-line .result ≤ 22
@@ -53,16 +54,7 @@ returns-2 c =
     rw (ne-eqb _ _ h) (wrote-all (wrote-more (begun w) (rw (w .before .before .value-if .ensures) at (e .write-recipients .ensures))))
 
 pub write-answer-spec : {M : Type 1} → statement M
-write-answer-spec = tie.close (tie.spec
-    (λ c κs. search needs)
-    (λ c κs. search needs)
-    (λ c. search needs)
-    (λ c κs. search needs)
-    (λ c κs. search needs)
-    slice-aggregate-write-reply
-    write-reply-requires
-    write-recipients-requires
-    (λ c. search needs)
-    returns
-    (λ c. search needs)
-    returns-2)
+write-answer-spec = tie.close
+    (tie.spec
+    (λ c κs. search needs) (λ c κs. search needs) (λ c. search needs) (λ c κs. search needs) (λ c κs. search needs) slice-aggregate-write-reply
+    write-reply-requires write-recipients-requires (λ c. search needs) returns (λ c. search needs) returns-2)

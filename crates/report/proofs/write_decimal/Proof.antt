@@ -24,22 +24,12 @@ returns-3 c =
     let h = w .before .before in
     let t = h .before .before .before in
     let d = t .before .before in
-    rw (three-digits (d .before .before .args .n) (omega arith) (omega arith), ← h .digit3 .ensures, ← t .digit2 .ensures, ← d .digit .ensures) (w .write-run3 .ensures)
+    rw (three-digits (d .before .before .args .n) (omega arith) (omega arith), ← h .digit3 .ensures, ← t .digit2 .ensures, ← d .digit .ensures)
+    (w .write-run3 .ensures)
 
 pub write-decimal-spec : {M : Type 1} → statement M
-write-decimal-spec = tie.close (tie.spec
-    (λ c κs. search needs)
-    (λ c. search needs)
-    (λ c κs. search needs)
-    (λ c. search needs)
-    returns
-    (λ c κs. search needs)
-    (λ c. search needs)
-    (λ c κs. search needs)
-    (λ c. search needs)
-    returns-2
-    (λ c κs. search needs)
-    (λ c. search needs)
-    (λ c κs. search needs)
-    (λ c. search needs)
+write-decimal-spec = tie.close
+    (tie.spec
+    (λ c κs. search needs) (λ c. search needs) (λ c κs. search needs) (λ c. search needs) returns (λ c κs. search needs) (λ c. search needs)
+    (λ c κs. search needs) (λ c. search needs) returns-2 (λ c κs. search needs) (λ c. search needs) (λ c κs. search needs) (λ c. search needs)
     returns-3)

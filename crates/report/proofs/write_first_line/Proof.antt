@@ -25,12 +25,7 @@ returns c =
     wrote-more (wrote-more (f .before .before .before .before .before .write-field .ensures) (f .write-field2 .ensures)) (e .write-run .ensures)
 
 pub write-first-line-spec : {M : Type 1} → statement M
-write-first-line-spec = tie.close (tie.spec
-    (λ c. search needs)
-    (λ c κs. search needs)
-    (λ c. search needs)
-    write-field-requires-2
-    (λ c. search needs)
-    write-run-requires
-    (λ c. search needs)
+write-first-line-spec = tie.close
+    (tie.spec
+    (λ c. search needs) (λ c κs. search needs) (λ c. search needs) write-field-requires-2 (λ c. search needs) write-run-requires (λ c. search needs)
     returns)

@@ -29,8 +29,11 @@ loop-again : tie.Need-loop-again Inv-loop μ-loop
 loop-again c =
     let w = c .before .before in
     let h = w .before .before .before in
-    let at-loop = h .before .before .before in
-    (search needs, going-more (at-loop .loop .inv .1) (next-octet (now (at-loop .before .before .before .args .s)) (at-loop .loop .j) (omega arith)) (rw (h .hex-octet .ensures) at (w .write-run .ensures)))
+    let at-loop = h .before .before .before in (
+      search needs,
+      going-more (at-loop .loop .inv .1) (next-octet (now (at-loop .before .before .before .args .s)) (at-loop .loop .j) (omega arith))
+          (rw (h .hex-octet .ensures) at (w .write-run .ensures)),
+    )
 
 returns : tie.Need-returns Inv-loop μ-loop
 returns c = going-end (c .before .loop .inv .1) (no-octet (now (c .before .before .before .before .args .s)) (c .before .loop .j) (omega arith))

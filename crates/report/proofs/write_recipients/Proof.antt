@@ -32,8 +32,11 @@ loop-again c =
     let w = c .before .before in
     let r = w .before .before .before in
     let at-loop = r .before .before .before .before .before in
-    let args = at-loop .before .before .before .args in
-    (search needs, going-more (at-loop .loop .inv .1) (next-recipient (now (args .list)) (args .n) (at-loop .loop .i) (omega arith)) (rw (r .recipient-line .ensures) at (w .write-run .ensures)))
+    let args = at-loop .before .before .before .args in (
+      search needs,
+      going-more (at-loop .loop .inv .1) (next-recipient (now (args .list)) (args .n) (at-loop .loop .i) (omega arith))
+          (rw (r .recipient-line .ensures) at (w .write-run .ensures)),
+    )
 
 returns : tie.Need-returns Inv-loop μ-loop
 returns c = going-end (c .before .loop .inv .1) (no-recipient _ (c .before .before .before .before .args .n) (c .before .loop .i) (omega arith))

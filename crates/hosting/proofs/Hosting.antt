@@ -1,0 +1,115 @@
+-- Laws of the host's calls: where a check fails, nothing changes; where none does, the octets written are the call's change.
+use mathlib.Core.Path.{_≡_, sym, _∙_}
+use mathlib.Core.Bool.{Bool, true, false, not, _||_}
+use mathlib.Core.List.{List}
+use Prim.Native.Nat.{ℕ, _%_, _<_}
+use native.Mathlib.Omega.{arith}
+use lib.ListN.{length}
+use borrow.Author.Tests.{eq-eqb, ne-eqb, not-true, not-false}
+use Rattle.words.specs.Outcomes.{numberOf}
+use Rattle.words.specs.declared.DeviceAddress.{DeviceAddress}
+use Rattle.words.specs.declared.Kind.{Kind}
+use Rattle.words.specs.declared.Kind.the-variants.{Devices, Binds, Members}
+use Rattle.words.specs.declared.BindPart.the-variants.{Source, Destination}
+use Rattle.words.specs.declared.Outcome.{Outcome}
+use Rattle.words.specs.declared.Outcome.the-variants.{Done, Unsound, OutOfRange, AlreadyAdmitted, NoFreeRecord, NotAdmitted}
+use Rattle.rules.specs.Lists.{ask}
+use Rattle.rules.specs.Octets.{octets}
+use Rattle.rules.specs.Tables.{Rec, records, someFree, matches, addressed, clear, store, wipe, written}
+use Rattle.rules.specs.Layout.{size, partStart, partIs, deviceRecord}
+use Rattle.rules.specs.Frame.{Lent, lent, lentOf, tables, also, nothing, changed}
+use Rattle.rules.specs.Exists.{admitted}
+use Rattle.rules.specs.Sound.{deviceInRange, sound}
+use Rattle.rules.specs.Host.{hostAnswer, settled, admitting, admission, admit, namesDevice, releasing, release}
+use Rattle.rules.proofs.Records.{each-records, each-clear, records-bytes, clear-twice}
+use Rattle.rules.proofs.Kept.{whole-at, whole-length}
+
+-- a check that the code made, and how it came out
+module _ {b w : Bool} (e : b ≡ w) where
+  pub failed : not b ≡ true → w ≡ false
+  failed n = sym e ∙ not-true b n
+
+  pub passed : not b ≡ false → w ≡ true
+  passed n = sym e ∙ not-false b n
+
+-- tables that are sound are whole records
+pub whole-table : (L : Lent) → sound L ≡ true → (k : Kind) → length (lentOf k L) % size k ≡ 0
+whole-table L s k = whole-length k (lentOf k L) (whole-at L s k)
+
+-- Admit
+
+-- each check of the order, those before it passed
+module _ (ds : List Rec) (d : DeviceAddress) (rights top : ℕ) where
+  pub out-of-range : deviceInRange d rights top ≡ false → OutOfRange ≡ admission ds d rights top
+  unfolding admission ask
+  out-of-range f = rw f
+
+  module _ (f : deviceInRange d rights top ≡ true) where
+    pub already-there : admitted ds d ≡ true → AlreadyAdmitted ≡ admission ds d rights top
+    unfolding admission ask
+    already-there a = rw (f, a)
+
+    pub no-room : admitted ds d ≡ false → someFree ds ≡ false → NoFreeRecord ≡ admission ds d rights top
+    unfolding admission ask
+    no-room a r = rw (f, a, r)
+
+    pub is-new : admitted ds d ≡ false → someFree ds ≡ true → Done 0 ≡ admission ds d rights top
+    unfolding admission ask
+    is-new a r = rw (f, a, r)
+
+module _ (L : Lent) (d : DeviceAddress) (rights top : ℕ) where
+  pub admit-unsound : sound L ≡ false → hostAnswer Unsound L ≡ admit L d rights top
+  unfolding admit settled ask
+  admit-unsound s = rw s
+
+  -- on sound tables, with the number n of the outcome o
+  module _ {o : Outcome} {n : ℕ} (s : sound L ≡ true) (e : o ≡ admission (tables L Devices) d rights top) (k : n ≡ numberOf o) where
+    pub admit-refused : (n ≡ 0 → ⊥) → hostAnswer o L ≡ admit L d rights top
+    unfolding admit settled ask
+    admit-refused z = rw (s, sym e, ne-eqb (numberOf o) 0 (λ h. z (k ∙ h)))
+
+    pub admit-done : {r : Rec} {ds : List ℕ} → n ≡ 0 → r ≡ deviceRecord d rights top → ds ≡ written (size Devices) (store r) (L .devices)
+        → hostAnswer o (lent ds (L .binds) (L .groups) (L .members)) ≡ admit L d rights top
+    unfolding admit settled ask changed admitting also nothing written
+    admit-done z f h = rw (s, sym e, eq-eqb (numberOf o) 0 (sym k ∙ z), h, f)
+
+-- Release
+
+-- one removal after another on the octets
+wipe-twice : (k : ℕ) (p q : Rec → Bool) (t : List ℕ) → 0 < k → written k (wipe q) (written k (wipe p) t) ≡ written k (wipe (λ r. p r || q r)) t
+unfolding written
+wipe-twice k p q t h = rw (records-bytes k (clear p (records k t)) h (each-clear k p (records k t) (each-records k t)), clear-twice p q (records k t))
+
+module _ (d : DeviceAddress) where
+  -- by source, and then by individual destination
+  pub binds-freed : (t : List ℕ) {i j : ℕ} {w u v : List ℕ} → w ≡ octets (d .0) → i ≡ partStart Source → j ≡ partStart Destination
+      → u ≡ written (size Binds) (wipe (matches i w)) t → v ≡ written (size Binds) (wipe (matches j w)) u → v ≡ written (size Binds) (wipe (namesDevice d)) t
+  unfolding namesDevice partIs
+  binds-freed t e i j h g = rw (g, h, e, i, j) (wipe-twice (size Binds) (partIs Source (octets (d .0))) (partIs Destination (octets (d .0))) t (omega arith))
+
+  -- all that release takes, by the octets of the address
+  pub device-freed : (ds bs ms : List ℕ) {w u v t : List ℕ} → w ≡ octets (d .0) → u ≡ written (size Devices) (wipe (matches 0 w)) ds
+      → v ≡ written (size Binds) (wipe (namesDevice d)) bs → t ≡ written (size Members) (wipe (matches 2 w)) ms
+      → (u ≡ written (size Devices) (releasing d Devices) ds)
+      × (v ≡ written (size Binds) (releasing d Binds) bs)
+      × (t ≡ written (size Members) (releasing d Members) ms)
+  unfolding releasing also addressed
+  device-freed ds bs ms e f g h = (rw (f, e), g, rw (h, e))
+
+module _ (L : Lent) (d : DeviceAddress) where
+  pub release-unsound : sound L ≡ false → hostAnswer Unsound L ≡ release L d
+  unfolding release settled ask
+  release-unsound s = rw s
+
+  pub release-unknown : sound L ≡ true → admitted (tables L Devices) d ≡ false → hostAnswer NotAdmitted L ≡ release L d
+  unfolding release settled ask
+  release-unknown s a = rw (s, a)
+
+  -- the groups stay
+  pub release-done : {ds bs ms : List ℕ} → sound L ≡ true → admitted (tables L Devices) d ≡ true
+      → (ds ≡ written (size Devices) (releasing d Devices) (L .devices))
+      × (bs ≡ written (size Binds) (releasing d Binds) (L .binds))
+      × (ms ≡ written (size Members) (releasing d Members) (L .members))
+      → hostAnswer (Done 0) (lent ds bs (L .groups) ms) ≡ release L d
+  unfolding release settled ask changed releasing also nothing written
+  release-done s a w = rw (s, a, w .0, w .1, w .2)

@@ -1,0 +1,37 @@
+-- `hosting::admit` meets its contract: the record is stored where the outcome is 0, and only there.
+use native.Mathlib.Omega.{arith}
+use borrow.Author.Needs.{needs}
+use Rattle.words.specs.declared.Kind.the-variants.{Devices}
+use Rattle.hosting.proofs.Hosting.{failed, passed, whole-table, admit-unsound, admit-refused, admit-done}
+use Rattle.hosting.proofs.admit.Statement.{statement}
+use Rattle.hosting.proofs.admit.Tie as tie
+
+returns : tie.Need-returns
+returns c = admit-unsound _ _ _ _ (failed (c .before .sound .ensures) (c .if1 .taken))
+
+store-requires : tie.Need-store-requires
+store-requires c κs =
+    let s = c .before .before .before .before .before .before .before in
+    (omega arith, whole-table _ (passed (s .before .sound .ensures) (s .if1 .left)) Devices, search needs)
+
+returns-2 : tie.Need-returns-2
+returns-2 c =
+    let w = c .before .before in
+    let r = w .before .before .before in
+    let t = r .before in
+    let a = t .before .before in
+    let s = a .before .before in
+    admit-done _ _ _ _ (passed (s .before .sound .ensures) (s .if1 .left)) (a .admission .ensures) (t .before .number .ensures) (t .if2 .taken)
+    (r .device-record .ensures) (w .store .ensures)
+
+returns-3 : tie.Need-returns-3
+returns-3 c =
+    let a = c .before .before in
+    let s = a .before .before in
+    admit-refused _ _ _ _ (passed (s .before .sound .ensures) (s .if1 .left)) (a .admission .ensures) (c .before .number .ensures) (c .if2 .left)
+
+pub admit-spec : {M : Type 1} → statement M
+admit-spec = tie.close
+    (tie.spec
+    (λ c κs. search needs) (λ c. search needs) returns (λ c κs. search needs) (λ c κs. search needs) (λ c κs. search needs) (λ c. search needs)
+    store-requires (λ c. search needs) returns-2 (λ c. search needs) returns-3)

@@ -1,0 +1,106 @@
+// The two calls of the host (document 01, Outcomes): a device is admitted, a device is released. Each looks first, and writes only on outcome 0.
+use layouts::BIND;
+use layouts::DEVICE;
+use layouts::MEMBER;
+use layouts::MEMBER_DEVICE;
+use layouts::address_octets;
+use words::BindPart;
+use words::DeviceAddress;
+use words::Outcome;
+ghost use mathlib.Core.Path.{_≡_};
+ghost use Prim.Native.Nat.{_%_};
+ghost use lib.ListN.{length};
+ghost use Rattle.rules.specs.Tables.{wipe, written};
+ghost use Rattle.rules.specs.Layout.{size};
+ghost use Rattle.rules.specs.Frame.{lent, table};
+ghost use Rattle.rules.specs.Host.{hostAnswer, admission, admit, namesDevice, releasing, release};
+ghost use Rattle.words.specs.declared.Kind.the-variants.{Devices, Binds, Members};
+
+// "Admit: 16, 20, 21, 22, else 0.", behind 16. It looks, and writes nothing.
+fn admission(devices: &[u8], address: DeviceAddress, rights: u8, highest: u8) -> Outcome
+    ensures { λ r. ⌜ r ≡ admission (table Devices (now (devices .entry))) address rights highest ⌝ }
+{
+    let fits = fitting::device_in_range(address, rights, highest);
+    let there = existing::is_admitted(devices, address);
+    let room = records::has_room(devices, DEVICE);
+    if !fits {
+        return Outcome::OutOfRange;
+    }
+    if there {
+        return Outcome::AlreadyAdmitted;
+    }
+    if !room {
+        return Outcome::NoFreeRecord;
+    }
+    Outcome::Done(0)
+}
+
+// Admits a device with its rights and its units 0 to the highest: its record goes to the first free place.
+pub fn admit(
+    devices: &mut [u8],
+    binds: &[u8],
+    groups: &[u8],
+    members: &[u8],
+    address: DeviceAddress,
+    rights: u8,
+    highest: u8,
+) -> Outcome
+    ensures { λ r. ⌜ hostAnswer r (lent (now (devices .exit)) (now (binds .entry)) (now (groups .entry)) (now (members .entry)))
+        ≡ admit (lent (now (devices .entry)) (now (binds .entry)) (now (groups .entry)) (now (members .entry))) address rights highest ⌝ }
+{
+    if !soundness::sound(devices, binds, groups, members) {
+        return Outcome::Unsound;
+    }
+    let outcome = admission(devices, address, rights, highest);
+    if outcome.number() == 0 {
+        let record = layouts::device_record(address, rights, highest);
+        records::store(devices, DEVICE, &record);
+    }
+    outcome
+}
+
+// "all binds that name it as source or individual destination": the flag of octet 6 is 0 in a device's address.
+fn free_binds(binds: &mut [u8], device: DeviceAddress)
+    requires { ⌜ length (now binds) % size Binds ≡ 0 ⌝ }
+    ensures { λ _. ⌜ now (binds .exit) ≡ written (size Binds) (wipe (namesDevice device)) (now (binds .entry)) ⌝ }
+{
+    let address = address_octets(device.0);
+    let source = layouts::part_start(BindPart::Source);
+    let destination = layouts::part_start(BindPart::Destination);
+    records::free_matching(binds, BIND, source, &address);
+    records::free_matching(binds, BIND, destination, &address);
+}
+
+// "Release takes the device, its members and all binds that name it". No group goes with a device.
+fn free_device(devices: &mut [u8], binds: &mut [u8], members: &mut [u8], device: DeviceAddress)
+    requires { ⌜ (length (now devices) % size Devices ≡ 0) × (length (now binds) % size Binds ≡ 0) × (length (now members) % size Members ≡ 0) ⌝ }
+    ensures { λ _. ⌜ (now (devices .exit) ≡ written (size Devices) (releasing device Devices) (now (devices .entry)))
+        × (now (binds .exit) ≡ written (size Binds) (releasing device Binds) (now (binds .entry)))
+        × (now (members .exit) ≡ written (size Members) (releasing device Members) (now (members .entry))) ⌝ }
+{
+    let address = address_octets(device.0);
+    records::free_matching(devices, DEVICE, 0, &address);
+    records::free_matching(members, MEMBER, MEMBER_DEVICE, &address);
+    free_binds(binds, device);
+}
+
+// Releases a device, with all that names it. "Release: 16, 23, else 0."
+pub fn release(
+    devices: &mut [u8],
+    binds: &mut [u8],
+    groups: &[u8],
+    members: &mut [u8],
+    address: DeviceAddress,
+) -> Outcome
+    ensures { λ r. ⌜ hostAnswer r (lent (now (devices .exit)) (now (binds .exit)) (now (groups .entry)) (now (members .exit)))
+        ≡ release (lent (now (devices .entry)) (now (binds .entry)) (now (groups .entry)) (now (members .entry))) address ⌝ }
+{
+    if !soundness::sound(devices, binds, groups, members) {
+        return Outcome::Unsound;
+    }
+    if !existing::is_admitted(devices, address) {
+        return Outcome::NotAdmitted;
+    }
+    free_device(devices, binds, members, address);
+    Outcome::Done(0)
+}
