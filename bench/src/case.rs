@@ -32,7 +32,8 @@ const BIND_MANAGEMENT: u16 = 0x8002;
 const GROUP_MANAGEMENT: u16 = 0x8003;
 const CONCENTRATOR: (u16, u8) = (0, 0);
 const BIND_ADDRESS: (u16, u8) = (0x7FFF, 0xFF);
-const GROUP_TYPE: u16 = 0x8000;
+/// The group, of group type.
+const GROUP_ADDRESS: (u16, u8) = (0x8000 | GROUP, 0);
 const SWITCH: (u16, u8) = (1, 0);
 
 fn word(octets: &mut Vec<u8>, number: u16) {
@@ -116,23 +117,13 @@ fn state(binds: usize, matching: usize, members: usize, room: (usize, usize)) ->
 
 const FULL: (usize, usize) = (64, 128);
 
-fn to_binds(name: &str, state: State, recipients: usize) -> Case {
-    let call = Call::Message(message(SWITCH, BIND_ADDRESS, INTERFACE, 1, &[]));
+/// The switch's message to an address, and to how many it goes.
+fn delivery(name: &str, to: (u16, u8), state: State, recipients: usize) -> Case {
     Case {
         name: name.into(),
-        call,
+        call: Call::Message(message(SWITCH, to, INTERFACE, 1, &[])),
         state,
-        answer: (1, recipients),
-    }
-}
-
-fn to_group(name: &str, state: State, recipients: usize) -> Case {
-    let call = Call::Message(message(SWITCH, (GROUP_TYPE | GROUP, 0), INTERFACE, 1, &[]));
-    Case {
-        name: name.into(),
-        call,
-        state,
-        answer: (1, recipients),
+        answer: (if recipients == 0 { 2 } else { 1 }, recipients),
     }
 }
 
@@ -173,18 +164,25 @@ pub fn cases() -> Vec<Case> {
             state: state(63, 63, 128, FULL),
             answer: (0, 16),
         },
-        to_binds(
+        delivery(
             "delivery, 1 matching bind of 64",
+            BIND_ADDRESS,
             state(64, 1, 128, FULL),
             1,
         ),
-        to_binds(
+        delivery(
             "delivery, 16 matching binds of 64",
+            BIND_ADDRESS,
             state(64, 16, 128, FULL),
             16,
         ),
-        to_binds("delivery, 64 matching binds of 64", full(), 64),
-        to_group("delivery, group of 128", full(), 128),
+        delivery(
+            "delivery, 64 matching binds of 64",
+            BIND_ADDRESS,
+            full(),
+            64,
+        ),
+        delivery("delivery, group of 128", GROUP_ADDRESS, full(), 128),
         Case {
             name: "Get Group Info, 128 members".into(),
             call: Call::Message(message(
@@ -206,22 +204,16 @@ pub fn cases() -> Vec<Case> {
     ]
 }
 
-/// How cost grows with records: a message to a group whose members fill their table, and no binds.
+/// How cost grows with records: a message to a group whose members fill their table, or which has none, and no binds.
 pub fn growth() -> Vec<Case> {
-    let mut cases = Vec::new();
-    for n in [0, 8, 16, 32, 64, 128] {
+    let records = [0, 8, 16, 32, 64, 128];
+    let filled = records.map(|n| {
         let name = format!("group of {n}, {n} member records");
-        let mut case = to_group(&name, state(0, 0, n, (0, n)), n);
-        if n == 0 {
-            case.answer = (2, 0);
-        }
-        cases.push(case);
-    }
-    for n in [0, 8, 16, 32, 64, 128] {
+        delivery(&name, GROUP_ADDRESS, state(0, 0, n, (0, n)), n)
+    });
+    let free = records.map(|n| {
         let name = format!("group of 0, {n} free member records");
-        let mut case = to_group(&name, state(0, 0, 0, (0, n)), n);
-        case.answer = (2, 0);
-        cases.push(case);
-    }
-    cases
+        delivery(&name, GROUP_ADDRESS, state(0, 0, 0, (0, n)), 0)
+    });
+    filled.into_iter().chain(free).collect()
 }

@@ -13,7 +13,8 @@
 
 #include "gneissfold.h"
 
-enum { MARK = 0xA5, MOST = 7, WRITTEN = 255 };
+/* STALE stands in the count or length before a call, which writes it whatever the outcome. */
+enum { MARK = 0xA5, MOST = 7, WRITTEN = 255, STALE = 0xBADC0DE };
 
 static size_t guard = 32;
 static uint8_t *memory[MOST];
@@ -86,7 +87,7 @@ int main(int words, char **word)
         guard = 0;
     while (take(head, 6)) {
         uint8_t told[9];
-        size_t count = 0;
+        size_t count = STALE;
         if (!lend(head[5]))
             return 1;
         told[0] = call(head[0], (uint16_t)(head[1] | head[2] << 8), head[3], head[4], &count);

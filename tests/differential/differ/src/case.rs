@@ -2,8 +2,11 @@
 //! reading, and the comparison of all that they leave ("For each public call
 //! the contract determines outcome, count or length and every octet lent").
 
-use crate::ffi;
-use std::fmt;
+mod print;
+
+pub use print::hexadecimal;
+
+use crate::part;
 
 #[derive(Clone, PartialEq, Default)]
 pub struct World {
@@ -54,159 +57,26 @@ pub struct Answer {
     pub count: usize,
     pub world: World,
     pub call: Call,
-    /// Octets just outside a lent slice that changed; never any.
-    pub outside: bool,
 }
 
-/// Octets kept on either side of every slice lent to the part. They show a
-/// write outside it, and keep the pointer of an empty slice a real one.
-const GUARD: usize = 24;
-const GUARD_OCTET: u8 = 0xC3;
-const GUARD_WORD: u16 = 0xC3C3;
+impl Answer {
+    /// Whether octets just outside a slice lent to the part changed; never so.
+    pub fn outside(&self) -> bool {
+        self.outcome == part::WRITTEN
+    }
+}
+
 /// What stands in the count or length before a call.
 const STALE: usize = 0xBAD_C0DE;
 
-struct Lent {
-    octets: Vec<u8>,
-    length: usize,
-}
-
-impl Lent {
-    fn of(contents: &[u8]) -> Lent {
-        let mut octets = vec![GUARD_OCTET; contents.len() + 2 * GUARD];
-        octets[GUARD..GUARD + contents.len()].copy_from_slice(contents);
-        Lent {
-            octets,
-            length: contents.len(),
-        }
-    }
-
-    fn slice(&mut self) -> &mut [u8] {
-        &mut self.octets[GUARD..GUARD + self.length]
-    }
-
-    /// The contents handed back; `outside` becomes true if a guard changed.
-    fn back(mut self, outside: &mut bool) -> Vec<u8> {
-        let end = GUARD + self.length;
-        let kept = |octets: &[u8]| octets.iter().all(|&octet| octet == GUARD_OCTET);
-        if !kept(&self.octets[..GUARD]) || !kept(&self.octets[end..]) {
-            *outside = true;
-        }
-        self.octets.truncate(end);
-        self.octets.drain(..GUARD);
-        self.octets
-    }
-}
-
-impl Case {
-    /// The call as the part answers it.
-    pub fn by_part(&self) -> Answer {
-        let mut devices = Lent::of(&self.world.devices);
-        let mut binds = Lent::of(&self.world.binds);
-        let mut groups = Lent::of(&self.world.groups);
-        let mut members = Lent::of(&self.world.members);
-        let mut count = STALE;
-        let mut outside = false;
-        let (outcome, call) = match &self.call {
-            Call::Message { msg, reply, list } => {
-                let (mut msg, mut reply, mut list) =
-                    (Lent::of(msg), Lent::of(reply), Lent::of(list));
-                let outcome = ffi::message(
-                    devices.slice(),
-                    binds.slice(),
-                    groups.slice(),
-                    members.slice(),
-                    msg.slice(),
-                    reply.slice(),
-                    list.slice(),
-                    &mut count,
-                );
-                let msg = msg.back(&mut outside);
-                let reply = reply.back(&mut outside);
-                let list = list.back(&mut outside);
-                (outcome, Call::Message { msg, reply, list })
-            }
-            &Call::Admit {
-                address,
-                rights,
-                highest,
-            } => {
-                count = 0;
-                let outcome = ffi::admit(
-                    devices.slice(),
-                    binds.slice(),
-                    groups.slice(),
-                    members.slice(),
-                    address,
-                    rights,
-                    highest,
-                );
-                (outcome, self.call.clone())
-            }
-            &Call::Release { address } => {
-                count = 0;
-                let outcome = ffi::release(
-                    devices.slice(),
-                    binds.slice(),
-                    groups.slice(),
-                    members.slice(),
-                    address,
-                );
-                (outcome, self.call.clone())
-            }
-            &Call::Copy {
-                ref msg,
-                ref room,
-                device,
-                unit,
-            } => {
-                let (mut msg, mut room) = (Lent::of(msg), Lent::of(room));
-                let outcome = ffi::copy(msg.slice(), room.slice(), device, unit, &mut count);
-                let msg = msg.back(&mut outside);
-                let room = room.back(&mut outside);
-                (
-                    outcome,
-                    Call::Copy {
-                        msg,
-                        room,
-                        device,
-                        unit,
-                    },
-                )
-            }
-            Call::Read { msg, fields } => {
-                count = 0;
-                let mut msg = Lent::of(msg);
-                let mut guarded = [GUARD_WORD; 12 + 2 * GUARD];
-                guarded[GUARD..GUARD + 12].copy_from_slice(fields);
-                let outcome = ffi::read(msg.slice(), &mut guarded[GUARD..GUARD + 12]);
-                let kept = |words: &[u16]| words.iter().all(|&word| word == GUARD_WORD);
-                outside = !kept(&guarded[..GUARD]) || !kept(&guarded[GUARD + 12..]);
-                let mut fields = [0; 12];
-                fields.copy_from_slice(&guarded[GUARD..GUARD + 12]);
-                let msg = msg.back(&mut outside);
-                (outcome, Call::Read { msg, fields })
-            }
-        };
-        let world = World {
-            devices: devices.back(&mut outside),
-            binds: binds.back(&mut outside),
-            groups: groups.back(&mut outside),
-            members: members.back(&mut outside),
-        };
-        Answer {
-            outcome,
-            count,
-            world,
-            call,
-            outside,
-        }
-    }
-
-    /// The call as the other reading answers it.
-    pub fn by_reading(&self) -> Answer {
-        let mut world = self.world.clone();
-        let mut call = self.call.clone();
+/// A case's call as `$side` answers it. The part and the other reading have
+/// the same five calls.
+macro_rules! answer {
+    ($side:ident, $case:expr) => {{
+        let Case {
+            mut world,
+            mut call,
+        } = $case.clone();
         let mut count = STALE;
         let World {
             devices,
@@ -215,7 +85,7 @@ impl Case {
             members,
         } = &mut world;
         let outcome = match &mut call {
-            Call::Message { msg, reply, list } => other_reading::message(
+            Call::Message { msg, reply, list } => $side::message(
                 devices, binds, groups, members, msg, reply, list, &mut count,
             ),
             &mut Call::Admit {
@@ -224,21 +94,21 @@ impl Case {
                 highest,
             } => {
                 count = 0;
-                other_reading::admit(devices, binds, groups, members, address, rights, highest)
+                $side::admit(devices, binds, groups, members, address, rights, highest)
             }
             &mut Call::Release { address } => {
                 count = 0;
-                other_reading::release(devices, binds, groups, members, address)
+                $side::release(devices, binds, groups, members, address)
             }
             Call::Copy {
                 msg,
                 room,
                 device,
                 unit,
-            } => other_reading::copy(msg, room, *device, *unit, &mut count),
+            } => $side::copy(msg, room, *device, *unit, &mut count),
             Call::Read { msg, fields } => {
                 count = 0;
-                other_reading::read(msg, fields)
+                $side::read(msg, fields)
             }
         };
         Answer {
@@ -246,8 +116,17 @@ impl Case {
             count,
             world,
             call,
-            outside: false,
         }
+    }};
+}
+
+impl Case {
+    pub fn by_part(&self) -> Answer {
+        answer!(part, self)
+    }
+
+    fn by_reading(&self) -> Answer {
+        answer!(other_reading, self)
     }
 
     /// The part's answer, or all of the case if the two answers differ.
@@ -261,71 +140,5 @@ impl Case {
                 "the two answers differ\nCASE\n{self}PART\n{part}OTHER READING\n{reading}"
             ))
         }
-    }
-}
-
-pub fn hexadecimal(octets: &[u8]) -> String {
-    octets.iter().map(|octet| format!("{octet:02X}")).collect()
-}
-
-impl fmt::Display for World {
-    fn fmt(&self, to: &mut fmt::Formatter) -> fmt::Result {
-        writeln!(to, "  devices {}", hexadecimal(&self.devices))?;
-        writeln!(to, "  binds   {}", hexadecimal(&self.binds))?;
-        writeln!(to, "  groups  {}", hexadecimal(&self.groups))?;
-        writeln!(to, "  members {}", hexadecimal(&self.members))
-    }
-}
-
-impl fmt::Display for Call {
-    fn fmt(&self, to: &mut fmt::Formatter) -> fmt::Result {
-        match self {
-            Call::Message { msg, reply, list } => {
-                writeln!(to, "  message {}", hexadecimal(msg))?;
-                writeln!(to, "  reply   {}", hexadecimal(reply))?;
-                writeln!(to, "  list    {}", hexadecimal(list))
-            }
-            Call::Admit {
-                address,
-                rights,
-                highest,
-            } => {
-                writeln!(
-                    to,
-                    "  admit   {address:04X} rights {rights:02X} highest {highest:02X}"
-                )
-            }
-            Call::Release { address } => writeln!(to, "  release {address:04X}"),
-            Call::Copy {
-                msg,
-                room,
-                device,
-                unit,
-            } => {
-                writeln!(to, "  copy    {}", hexadecimal(msg))?;
-                writeln!(to, "  to      {device:04X}:{unit:02X}")?;
-                writeln!(to, "  room    {}", hexadecimal(room))
-            }
-            Call::Read { msg, fields } => {
-                writeln!(to, "  read    {}", hexadecimal(msg))?;
-                writeln!(to, "  fields  {fields:04X?}")
-            }
-        }
-    }
-}
-
-impl fmt::Display for Case {
-    fn fmt(&self, to: &mut fmt::Formatter) -> fmt::Result {
-        write!(to, "{}{}", self.world, self.call)
-    }
-}
-
-impl fmt::Display for Answer {
-    fn fmt(&self, to: &mut fmt::Formatter) -> fmt::Result {
-        writeln!(to, "  outcome {} count {}", self.outcome, self.count)?;
-        if self.outside {
-            writeln!(to, "  octets outside a lent slice were changed")?;
-        }
-        write!(to, "{}{}", self.world, self.call)
     }
 }

@@ -10,9 +10,9 @@
 //! --counts   prints how often each outcome and code came up
 
 mod case;
-mod ffi;
 mod generate;
 mod history;
+mod part;
 mod rng;
 mod runs;
 mod single;

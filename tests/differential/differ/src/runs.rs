@@ -63,7 +63,7 @@ impl Runs<'_> {
             case.by_part()
         };
         self.tally.after(&answer);
-        if answer.outside {
+        if answer.outside() {
             return Err(format!(
                 "octets outside a lent slice were changed\nCASE\n{case}"
             ));

@@ -3,8 +3,8 @@
 use crate::header::Header;
 use crate::recipients::Units;
 use crate::tables::{
-    self, bind_fields_hold, free_where, group_exists, group_record, is_free, number, put,
-    unit_exists, used, word, Tables, BIND, GROUP, LONGEST_NAME, MEMBER, NAME,
+    self, bind_fields_hold, free_where, group_exists, group_record, member_holds, number, put,
+    used, word, Tables, BIND, GROUP, LONGEST_NAME, MEMBER, NAME,
 };
 use crate::HEADER;
 
@@ -154,17 +154,12 @@ fn present(table: &[u8], record: &[u8]) -> bool {
     used(table, record.len()).any(|there| there == record)
 }
 
-/// Stores the record in the first free one ("Tables"), if there is one.
+/// "0xFE if and only if no free record".
 fn store(table: &mut [u8], record: &[u8]) -> u8 {
-    match table
-        .chunks_exact_mut(record.len())
-        .find(|there| is_free(there))
-    {
-        None => NOT_ENOUGH_RESOURCES,
-        Some(free) => {
-            free.copy_from_slice(record);
-            OK
-        }
+    if tables::store(table, record) {
+        OK
+    } else {
+        NOT_ENOUGH_RESOURCES
     }
 }
 
@@ -246,10 +241,7 @@ fn delete_group(payload: &[u8], tables: Tables) -> u8 {
 
 fn add_to_group(payload: &[u8], tables: Tables) -> u8 {
     let member = member_of(payload);
-    let allowed = group_exists(tables.groups, word(&member, 0))
-        && unit_exists(tables.devices, word(&member, 2), member[4])
-        && !present(tables.members, &member);
-    if !allowed {
+    if !member_holds(tables.devices, tables.groups, &member) || present(tables.members, &member) {
         return INVALID_ARGUMENT;
     }
     store(tables.members, &member)

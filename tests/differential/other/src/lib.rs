@@ -14,10 +14,10 @@ pub use header::{copy, read};
 pub use links::links;
 
 use header::Header;
-use tables::{free_where, is_free, put, word, Tables};
+use tables::{free_where, word, Tables};
 
 /// The outcome numbers ("Outcomes").
-pub mod outcome {
+mod outcome {
     pub const DONE: u8 = 0;
     pub const FORWARDED: u8 = 1;
     pub const NOBODY: u8 = 2;
@@ -141,18 +141,11 @@ pub fn admit(
     if tables::admitted(devices, address) {
         return outcome::ALREADY_ADMITTED;
     }
-    // "An addition takes the first free record" ("Tables").
-    match devices
-        .chunks_exact_mut(tables::DEVICE)
-        .find(|record| is_free(record))
-    {
-        None => outcome::NO_FREE_RECORD,
-        Some(record) => {
-            put(record, 0, address);
-            record[2] = rights;
-            record[3] = highest;
-            outcome::DONE
-        }
+    let [high, low] = address.to_be_bytes();
+    if tables::store(devices, &[high, low, rights, highest]) {
+        outcome::DONE
+    } else {
+        outcome::NO_FREE_RECORD
     }
 }
 

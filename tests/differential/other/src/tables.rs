@@ -58,6 +58,14 @@ pub fn used(table: &[u8], size: usize) -> impl Iterator<Item = &[u8]> {
     table.chunks_exact(size).filter(|record| !is_free(record))
 }
 
+/// "An addition takes the first free record"; says whether there was one.
+pub fn store(table: &mut [u8], record: &[u8]) -> bool {
+    let free = table
+        .chunks_exact_mut(record.len())
+        .find(|there| is_free(there));
+    free.map(|there| there.copy_from_slice(record)).is_some()
+}
+
 /// Frees every used record that matches; says whether there was one. A free
 /// record is never a match.
 pub fn free_where(table: &mut [u8], size: usize, matches: impl Fn(&[u8]) -> bool) -> bool {
@@ -142,7 +150,8 @@ fn group_in_range(group: &[u8]) -> bool {
         && group[NAME + length..].iter().all(|&octet| octet == 0x00)
 }
 
-fn member_holds(devices: &[u8], groups: &[u8], member: &[u8]) -> bool {
+/// "each device and unit named exists; each group named exists".
+pub fn member_holds(devices: &[u8], groups: &[u8], member: &[u8]) -> bool {
     group_exists(groups, word(member, 0)) && unit_exists(devices, word(member, 2), member[4])
 }
 

@@ -4,6 +4,9 @@ use std::cell::RefCell;
 use std::io::{Read, Write};
 use std::process::{Child, ChildStdin, ChildStdout, Command, Stdio};
 
+/// The outcome by which `part.c` says that octets beside a lent slice were written.
+pub const WRITTEN: u8 = 255;
+
 struct Part {
     // Kept so that the process is not left behind.
     _process: Child,
@@ -162,7 +165,7 @@ pub fn copy(msg: &[u8], room: &mut [u8], device: u16, unit: u8, length: &mut usi
     outcome
 }
 
-pub fn read(msg: &[u8], fields: &mut [u16]) -> u8 {
+pub fn read(msg: &[u8], fields: &mut [u16; 12]) -> u8 {
     let mut octets: Vec<u8> = fields.iter().flat_map(|f| f.to_le_bytes()).collect();
     let (outcome, _) = call(
         5,

@@ -1,0 +1,18 @@
+//! The lengths of what is lent: tables, messages and the recipient list.
+
+/// The octets before the payload, and the shortest message.
+pub const HEADER_LENGTH: usize = 15;
+/// The longest message, and the least room for a reply.
+pub const LONGEST: usize = 500;
+/// The devices at full size: 64 records of 4 octets.
+pub const DEVICES_LENGTH: usize = 4 * 64;
+/// The binds at full size: 64 records of 8 octets.
+pub const BINDS_LENGTH: usize = 8 * 64;
+/// The groups at full size: 16 records of 16 octets.
+pub const GROUPS_LENGTH: usize = 16 * 16;
+/// The members at full size: 128 records of 5 octets.
+pub const MEMBERS_LENGTH: usize = 5 * 128;
+/// A recipient in the list: device 2, unit 1.
+pub const RECIPIENT_SIZE: usize = 3;
+/// The recipient list that serves tables at full size.
+pub const LIST_LENGTH: usize = RECIPIENT_SIZE * (64 + 128);

@@ -1,0 +1,37 @@
+//! The records of the four tables ("Tables").
+
+use crate::case::World;
+
+/// Octets of one record.
+pub const DEVICE: usize = 4;
+pub const BIND: usize = 8;
+pub const GROUP: usize = 16;
+pub const MEMBER: usize = 5;
+/// In the order devices, binds, groups, members.
+pub const SIZES: [usize; 4] = [DEVICE, BIND, GROUP, MEMBER];
+/// Most records of each table, in the same order.
+pub const MOST: [usize; 4] = [64, 64, 16, 128];
+
+pub fn free(record: &[u8]) -> bool {
+    record.iter().all(|&octet| octet == 0xFF)
+}
+
+pub fn word(octets: &[u8], at: usize) -> u16 {
+    u16::from_be_bytes([octets[at], octets[at + 1]])
+}
+
+/// The records in use.
+pub fn used<const SIZE: usize>(table: &[u8]) -> Vec<[u8; SIZE]> {
+    let records = table.chunks_exact(SIZE).filter(|record| !free(record));
+    records.map(|record| record.try_into().unwrap()).collect()
+}
+
+/// A table by its place in that order.
+pub fn table(world: &mut World, which: usize) -> &mut Vec<u8> {
+    match which {
+        0 => &mut world.devices,
+        1 => &mut world.binds,
+        2 => &mut world.groups,
+        _ => &mut world.members,
+    }
+}

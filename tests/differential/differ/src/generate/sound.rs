@@ -1,0 +1,175 @@
+//! Tables that are sound ("Tables are sound if"): free, crowded, and built record by record.
+
+use super::records::{word, BIND, DEVICE, GROUP, MEMBER, MOST};
+use super::view::{some_address, View};
+use crate::case::World;
+use crate::rng::Rng;
+
+/// Free tables of random sizes within the limits, small ones often so that
+/// they fill up.
+pub fn free_world(rng: &mut Rng) -> World {
+    let [devices, binds, groups, members] = MOST.map(|most| match rng.below(10) {
+        0..=2 => most,
+        3..=6 => rng.below(most.min(9) + 1),
+        _ => rng.below(most + 1),
+    });
+    World {
+        devices: vec![0xFF; DEVICE * devices.max(rng.below(5))],
+        binds: vec![0xFF; BIND * binds],
+        groups: vec![0xFF; GROUP * groups],
+        members: vec![0xFF; MEMBER * members],
+    }
+}
+
+/// How full a constructed table becomes, in percent of its records; 99 leaves
+/// one record free.
+fn fill(rng: &mut Rng) -> usize {
+    rng.weighted(&[(10, 0), (20, 20), (20, 50), (15, 90), (15, 99), (20, 100)])
+}
+
+/// Puts new records into random places of the table. `new` may fail to find a
+/// record, or find one whose key is taken.
+fn construct<const SIZE: usize>(
+    rng: &mut Rng,
+    table: &mut [u8],
+    key: usize,
+    mut new: impl FnMut(&mut Rng) -> Option<[u8; SIZE]>,
+) {
+    let level = fill(rng);
+    let records = table.len() / SIZE;
+    let keep = if level == 99 {
+        rng.below(records)
+    } else {
+        records
+    };
+    let mut taken: Vec<[u8; SIZE]> = Vec::new();
+    for at in 0..records {
+        if at == keep || level < 99 && !rng.percent(level) {
+            continue;
+        }
+        for _ in 0..8 {
+            if let Some(record) = new(rng) {
+                if taken.iter().all(|there| there[..key] != record[..key]) {
+                    table[at * SIZE..(at + 1) * SIZE].copy_from_slice(&record);
+                    taken.push(record);
+                    break;
+                }
+            }
+        }
+    }
+}
+
+/// Full tables with every member in one group and every bind from one source,
+/// so that the list and the reply become as long as they can.
+pub fn crowded_world(rng: &mut Rng) -> World {
+    let mut world = World::default();
+    for address in 1..=MOST[0] as u8 {
+        world.devices.extend([0, address, 1, 9]);
+    }
+    for address in 1..=MOST[2] as u8 {
+        world.groups.extend([0, address, 13]);
+        world.groups.extend(rng.octets(13));
+    }
+    let mut units: Vec<_> = (0..640)
+        .map(|unit| [0, 1 + (unit / 10) as u8, (unit % 10) as u8])
+        .collect();
+    for at in (1..units.len()).rev() {
+        units.swap(at, rng.below(at + 1));
+    }
+    let group = 1 + rng.octet() % 16;
+    for [d1, d2, unit] in &units[..MOST[3]] {
+        world.members.extend([0, group, *d1, *d2, *unit]);
+    }
+    let [s1, s2, source_unit] = units[rng.below(MOST[3] + 1)];
+    let through_group = rng.below(MOST[1]);
+    for (at, [d1, d2, unit]) in units[MOST[3] + 1..][..MOST[1]].iter().enumerate() {
+        world.binds.extend([s1, s2, source_unit, 0x82, 0x00]);
+        world.binds.extend(if at == through_group {
+            [0x80, group, 0]
+        } else {
+            [*d1, *d2, *unit]
+        });
+    }
+    world
+}
+
+/// Sound tables built record by record ("Tables are sound if"), with free
+/// records among the used ones, also in states that no short run reaches.
+pub fn constructed_world(rng: &mut Rng) -> World {
+    let mut world = free_world(rng);
+    let wide = rng.percent(50);
+    // Many members in one group and many binds from one source, so that the
+    // list and the reply become as long as they can.
+    let crowded = rng.percent(20);
+    construct(rng, &mut world.devices, 2, |rng| {
+        let address = if wide {
+            1 + rng.word() % 90
+        } else {
+            some_address(rng)
+        };
+        let [a1, a2] = address.to_be_bytes();
+        let highest = rng.weighted(&[(50, 2), (20, 0), (10, 1), (10, 254), (10, 9)]);
+        Some([a1, a2, u8::from(rng.percent(70)), highest])
+    });
+    construct(rng, &mut world.groups, 2, |rng| {
+        let mut record = [0; GROUP];
+        let address = if rng.percent(85) {
+            1 + rng.word() % 18
+        } else {
+            some_address(rng)
+        };
+        record[..2].copy_from_slice(&address.to_be_bytes());
+        let length = rng.weighted(&[(40, 1), (20, 0), (20, 13), (20, 6)]);
+        record[2] = length as u8;
+        let name = rng.octets(length);
+        record[3..3 + length].copy_from_slice(&name);
+        Some(record)
+    });
+    let view = View::of(&world);
+    construct(rng, &mut world.members, MEMBER, |rng| {
+        let group = if crowded {
+            *view.groups.first()?
+        } else {
+            rng.pick(&view.groups)?
+        };
+        let [g1, g2] = word(&group, 0).to_be_bytes();
+        let (device, unit) = view.unit(rng);
+        let [d1, d2] = device.to_be_bytes();
+        Some([g1, g2, d1, d2, unit])
+    });
+    let few_sources = [view.unit(rng), view.unit(rng)];
+    construct(rng, &mut world.binds, BIND, |rng| {
+        let source = match rng.below(4) {
+            _ if crowded => few_sources[0],
+            0 | 1 => few_sources[rng.below(2)],
+            _ => view.unit(rng),
+        };
+        let mut bind = view.new_bind(rng, source);
+        if crowded {
+            bind[3..5].copy_from_slice(&[0x82, 0x00]);
+        }
+        bind_holds(&view, &bind).then_some(bind)
+    });
+    world
+}
+
+/// Whether a constructed bind names only what is there. A slip here would
+/// only make a table that is not sound, which both sides must refuse.
+fn bind_holds(view: &View, bind: &[u8; BIND]) -> bool {
+    let exists = |device: u16, unit: u8| {
+        (device, unit) == (0, 0)
+            || view
+                .devices
+                .iter()
+                .any(|record| word(record, 0) == device && unit <= record[3])
+    };
+    let destination = word(bind, 5);
+    let there = if destination >> 15 == 1 {
+        view.groups
+            .iter()
+            .any(|group| word(group, 0) == destination & 0x7FFF)
+    } else {
+        exists(destination, bind[7]) && (destination, bind[7]) != (word(bind, 0), bind[2])
+    };
+    there && exists(word(bind, 0), bind[2]) && bind[7] != 0xFF && word(bind, 3) & 0x7FFF != 0x7FFF
+}

@@ -1,0 +1,103 @@
+//! The tables of "Rows to try", and the calls that the tests make on them.
+
+use other_reading::message;
+
+/// The interfaces of the commands, by their UID.
+pub const BIND: u8 = 2;
+pub const GROUP: u8 = 3;
+/// The binds of the rows.
+pub const P1: [u8; 8] = [0x00, 0x03, 0x01, 0x82, 0x00, 0x00, 0x04, 0x02];
+pub const P2: [u8; 8] = [0x00, 0x03, 0x01, 0x82, 0x00, 0x80, 0x01, 0x00];
+
+#[derive(Clone, PartialEq, Debug)]
+pub struct World {
+    pub devices: Vec<u8>,
+    pub binds: Vec<u8>,
+    pub groups: Vec<u8>,
+    pub members: Vec<u8>,
+}
+
+/// One answer: outcome, then the octets that the count speaks of.
+#[derive(PartialEq, Debug)]
+pub struct Answer(pub u8, pub Vec<u8>);
+
+impl World {
+    fn free() -> World {
+        World {
+            devices: vec![0xFF; 256],
+            binds: vec![0xFF; 512],
+            groups: vec![0xFF; 256],
+            members: vec![0xFF; 640],
+        }
+    }
+
+    /// "Devices 3 (rights 1, highest 2), 4 (0, 2), 5 (0, 1); group 1 named
+    /// "S"; members 5:01, 4:02, 3:01 in that order".
+    pub fn of_the_rows() -> World {
+        let mut world = World::free();
+        world.devices[..12].copy_from_slice(&[0, 3, 1, 2, 0, 4, 0, 2, 0, 5, 0, 1]);
+        world.groups[..16].fill(0);
+        world.groups[..4].copy_from_slice(&[0, 1, 1, b'S']);
+        world.members[..15].copy_from_slice(&[0, 1, 0, 5, 1, 0, 1, 0, 4, 2, 0, 1, 0, 3, 1]);
+        world
+    }
+
+    pub fn send(&mut self, msg: &[u8]) -> Answer {
+        let mut reply = [0xA5; 500];
+        let mut list = [0x5A; 576];
+        let mut count = 77;
+        let before = self.clone();
+        let outcome = message(
+            &mut self.devices,
+            &mut self.binds,
+            &mut self.groups,
+            &mut self.members,
+            msg,
+            &mut reply,
+            &mut list,
+            &mut count,
+        );
+        let (in_reply, in_list) = match outcome {
+            0 => (count, 0),
+            1 => (0, 3 * count),
+            _ => {
+                assert_eq!(count, 0);
+                (0, 0)
+            }
+        };
+        assert!(reply[in_reply..].iter().all(|&octet| octet == 0xA5));
+        assert!(list[in_list..].iter().all(|&octet| octet == 0x5A));
+        if outcome != 0 || reply[15] != 0 {
+            assert_eq!(*self, before);
+        }
+        match outcome {
+            0 => Answer(0, reply[..count].to_vec()),
+            _ => Answer(outcome, list[..in_list].to_vec()),
+        }
+    }
+
+    /// The payload of the reply to a command.
+    pub fn command(&mut self, from: (u16, u8), uid: u8, member: u8, payload: &[u8]) -> Vec<u8> {
+        let Answer(outcome, reply) = self.send(&to_concentrator(from, uid, member, payload));
+        assert_eq!(outcome, 0);
+        let [high, low] = from.0.to_be_bytes();
+        let length = (reply.len() - 15) as u8;
+        let head = [0, 0, 0, high, low, from.1, 0, 0, 7, 3, 0x80, uid, member];
+        assert_eq!(reply[..13], head);
+        assert_eq!(reply[14], length);
+        reply[15..].to_vec()
+    }
+
+    pub fn add_bind(&mut self, bind: &[u8]) -> Vec<u8> {
+        self.command((3, 1), BIND, 1, bind)
+    }
+}
+
+/// A command to D'0:U'0, of type 0x01 and to a server interface.
+pub fn to_concentrator(from: (u16, u8), uid: u8, member: u8, payload: &[u8]) -> Vec<u8> {
+    let [high, low] = from.0.to_be_bytes();
+    let mut msg = vec![high, low, from.1, 0, 0, 0, 0, 0, 7, 1, 0x80, uid, member];
+    msg.extend_from_slice(&(payload.len() as u16).to_be_bytes());
+    msg.extend_from_slice(payload);
+    msg
+}
