@@ -1,8 +1,8 @@
 // The words of the paper as types: addresses, response codes, what a message says, what it is, and what a call answers. specs/ says what they mean.
 mod addresses;
 mod codes;
-mod commands;
-mod messages;
+mod headers;
+mod numbers;
 mod outcomes;
 
 // A device's address. D'0001 and G'0001 are the same number and different things (document 01, Tables).
