@@ -11,7 +11,7 @@ use Rattle.rules.specs.Lists.{any, all, keep}
 use Rattle.rules.specs.Octets.{starts}
 use Rattle.rules.specs.Tables.{Rec, free?, blank, used, someFree, matches, put, clear, Change, none, store, wipe, change}
 use Rattle.rules.specs.Sound.{distinct}
-use Rattle.rules.proofs.Lists.{and-parts, or-parts, split, same-truth, none-weaken, all-any}
+use Rattle.rules.proofs.Lists.{and-parts, or-parts, split, same-truth, none-weaken, all-of}
 use Rattle.rules.proofs.Words.{shaped}
 use Rattle.rules.proofs.Changes.{Storable, New, free-blank, any-put, any-clear}
 
@@ -71,7 +71,7 @@ module _ (k n : ℕ) where
     where
       fewer : any (matches 0 (take n x)) (used t) ≡ false → any (matches 0 (take n x)) (used (clear q t)) ≡ false
       fewer h = any-clear (matches 0 (take n x)) q t
-          ∙ none-weaken (λ r. true) (matches 0 (take n x)) _ (λ r e i. and-parts (not (q r)) (matches 0 (take n x) r) i .1) (used t) (all-any (used t)) h
+          ∙ none-weaken (λ r. true) (matches 0 (take n x)) _ (λ r e i. and-parts (not (q r)) (matches 0 (take n x) r) i .1) (used t) (all-of _ (λ r. refl) (used t)) h
 
       step : (b c : Bool) → free? x ≡ c → (c || not (any (matches 0 (take n x)) (used t))) ≡ true → distinct n (clear q t) ≡ true
           → distinct n (cond b (blank x) x ∷ clear q t) ≡ true

@@ -1,55 +1,57 @@
 -- Laws of the frame of all tables: what holds of each kind is said once. Which tables there are is used in this file alone.
-use mathlib.Core.Path.{_≡_, refl, sym, ap, _∙_}
+use mathlib.Core.Path.{_≡_, refl, sym, ap, fun-ext, _∙_}
 use mathlib.Core.Bool.{Bool, true, false, cond}
 use mathlib.Core.List.{List}
-use Prim.Native.Nat.{ℕ, _<_}
+use Prim.Native.Nat.{ℕ, _*_, _≤_, _<_}
 use native.Mathlib.Omega.{arith}
-use borrow.Author.Tests.{eqb-true}
-use lib.Dec.{eqb}
+use borrow.Author.Tests.{eqb-true, leb-true}
+use lib.Dec.{eqb, leb}
+use lib.ListN.{length, getD}
 use Rattle.words.specs.declared.Kind.{Kind}
 use Rattle.words.specs.declared.Kind.the-variants.{Devices, Binds, Groups, Members}
+use Rattle.rules.specs.Lists.{all, _&_}
 use Rattle.rules.specs.Tables.{Change, none, written}
-use Rattle.rules.specs.Layout.{size}
-use Rattle.rules.specs.Frame.{Lent, lentOf, each, everyTable, place, also, Effect, nothing, only, changed}
-use Rattle.rules.proofs.Lists.{split, join}
+use Rattle.rules.specs.Layout.{size, key, full}
+use Rattle.rules.specs.Frame.{Lent, made, lentOf, each, kinds, everyTable, place, also, Effect, nothing, only, changed}
+use Rattle.rules.proofs.Lists.{split, all-at, all-of}
 
-pub size-some : (k : Kind) → 0 < size k
-size-some Devices = omega arith
-size-some Binds = omega arith
-size-some Groups = omega arith
-size-some Members = omega arith
+-- every kind stands in the list of kinds, at its place
+abbrev kindAt : ℕ → Kind
+kindAt n = getD kinds n Devices
+
+listed : (k : Kind) → (place k < length kinds) × (kindAt (place k) ≡ k)
+listed Devices = (omega arith, refl)
+listed Binds = (omega arith, refl)
+listed Groups = (omega arith, refl)
+listed Members = (omega arith, refl)
+
+same-kind : (j k : Kind) → eqb (place j) (place k) ≡ true → j ≡ k
+same-kind j k e = sym (listed j .1) ∙ ap kindAt (eqb-true (place j) (place k) e) ∙ listed k .1
 
 -- what holds of every table holds of each, and back
 pub every-at : (p : Kind → Bool) → everyTable p ≡ true → (k : Kind) → p k ≡ true
 unfolding everyTable
-every-at p h Devices = split (split (split h .0) .0) .0
-every-at p h Binds = split (split (split h .0) .0) .1
-every-at p h Groups = split (split h .0) .1
-every-at p h Members = split h .1
+every-at p h k = let l = listed k in rw (sym (l .1)) (all-at p kinds (place k) Devices (l .0) h)
 
 pub every-of : (p : Kind → Bool) → ((k : Kind) → p k ≡ true) → everyTable p ≡ true
 unfolding everyTable
-every-of p h = join (join (join (h Devices) (h Binds)) (h Groups)) (h Members)
+every-of p h = all-of p h kinds
 
--- one table of those made anew
-pub lent-each : (f : Kind → List ℕ → List ℕ) (L : Lent) (k : Kind) → lentOf k (each f L) ≡ f k (lentOf k L)
-lent-each f L Devices = refl
-lent-each f L Binds = refl
-lent-each f L Groups = refl
-lent-each f L Members = refl
+-- of every table: a record has octets, a full table 640 at most, and a record its key
+pub shapes : (k : Kind) → (0 < size k) × (full k ≤ 640) × (key k ≤ size k)
+unfolding everyTable all _&_
+shapes k =
+    let h = every-at (λ k. leb 1 (size k) & leb (full k) 640 & leb (key k) (size k)) refl k in
+    let a = split h in
+    let b = split (a .0) in
+    (leb-true 1 (size k) (b .0), leb-true (full k) 640 (b .1), leb-true (key k) (size k) (a .1))
 
--- the place tells two kinds apart: the kind at a place
-abbrev kindAt : ℕ → Kind
-kindAt n = cond (eqb n 0) Devices (cond (eqb n 1) Binds (cond (eqb n 2) Groups Members))
-
-kind-again : (k : Kind) → kindAt (place k) ≡ k
-kind-again Devices = refl
-kind-again Binds = refl
-kind-again Groups = refl
-kind-again Members = refl
-
-same-kind : (j k : Kind) → eqb (place j) (place k) ≡ true → j ≡ k
-same-kind j k e = sym (kind-again j) ∙ ap kindAt (eqb-true (place j) (place k) e) ∙ kind-again k
+-- one table of those made
+pub lent-made : (t : Kind → List ℕ) (k : Kind) → lentOf k (made t) ≡ t k
+lent-made t Devices = refl
+lent-made t Binds = refl
+lent-made t Groups = refl
+lent-made t Members = refl
 
 -- what holds of a and b for the table k, and of x and y for every table, holds of a beside x and b beside y
 pub also-both : {A B : Type 0} (P : Kind → A → B → Type 0) (k : Kind) (a : A) (b : B) (x : Kind → A) (y : Kind → B)
@@ -74,7 +76,7 @@ changed-nothing L = refl
 
 pub lent-changed : (x : Effect) (L : Lent) (k : Kind) → lentOf k (changed x L) ≡ written (size k) (x k) (lentOf k L)
 unfolding changed
-lent-changed x L k = lent-each (λ j. written (size j) (x j)) L k
+lent-changed x L k = lent-made (λ j. written (size j) (x j) (lentOf j L)) k
 
 -- the frame with another table k
 unfoldable pub replaced : Kind → List ℕ → Lent → Lent
@@ -82,7 +84,7 @@ replaced k t L = each (λ j s. also k t (λ i. lentOf i L) j) L
 
 -- two ways to make each table anew that agree make one frame
 each-same : (f g : Kind → List ℕ → List ℕ) (L : Lent) → ((k : Kind) → f k (lentOf k L) ≡ g k (lentOf k L)) → each f L ≡ each g L
-each-same f g L e = rw (e Devices, e Binds, e Groups, e Members)
+each-same f g L e = ap made (fun-ext e)
 
 -- an effect on one table leaves the others
 pub changed-only : (k : Kind) (c : Change) (L : Lent) → changed (only k c) L ≡ replaced k (written (size k) c (lentOf k L)) L

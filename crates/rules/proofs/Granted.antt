@@ -32,7 +32,7 @@ use Rattle.rules.proofs.Words.{shaped, addressed-word, to-group, apart}
 use Rattle.rules.proofs.Changes.{Storable, New, spares}
 use Rattle.rules.proofs.Distinct.{lone}
 use Rattle.rules.proofs.Fresh.{new-low, new-high, new-fresh}
-use Rattle.rules.proofs.Kept.{Sane, InOrder, Ok, order-none, order-wipe, whole-at, bind-kept, member-kept, all-kept, ok-nothing}
+use Rattle.rules.proofs.Kept.{Sane, InOrder, Ok, order-none, order-wipe, whole-at, bind-kept, member-kept, ok-nothing}
 use Rattle.rules.proofs.Standing.{Says, says-nothing, says-added, says-withdrawn}
 use Rattle.rules.proofs.Stored.{Stored, bind-stored, member-stored, named-small, group-stored, group-meets}
 
@@ -84,9 +84,11 @@ told-apart k c {x} {e} n t =
 pub ok-adding : (L : Lent) (x : Effect) → ((k : Kind) → InOrder k L (x k)) → ((r : Rec) → spares (x Devices) r ≡ true)
     → ((r : Rec) → spares (x Groups) r ≡ true)
     → Ok L x
+unfolding fits
 ok-adding L x o d g = record {
   order = o;
-  kept = λ k r s w h. all-kept (x Devices) (x Groups) (tables L Devices) (tables L Groups) (o Devices .room) (o Groups .room) d g k r h;
+  binds = λ b s w h. bind-kept (x Devices) (x Groups) _ _ (o Devices .room) (o Groups .room) b (λ r e. d r) (λ t r e. d r) (λ t r e. g r) h;
+  members = λ m s w h. member-kept (x Devices) (x Groups) _ _ (o Devices .room) (o Groups .room) m (λ r e. d r) (λ r e. g r) h;
 }
 
 -- one table changes, in order
@@ -168,21 +170,12 @@ module _ (L : Lent) (p : List ℕ) (o : octetString p ≡ true) where
   unfolding nothing also spares fits Storable
   ok-delete = record {
     order = orders-wipe Groups L _ _ (orders-wipe Members L _ _ (orders-only Binds L _ (order-wipe Binds L _)));
-    kept = kept;
+    binds = λ b s w h. bind-kept none (wipe (addressed (g .0))) _ _ tt tt b (λ x e. refl) (λ t x e. refl)
+        (λ t x e. apart (boundGroup b .0) (g .0) x (λ z. never _ w (to-group g b small s ∙ join t (eq-eqb (boundGroup b .0) (g .0) z))) e) h;
+    members = λ m s w h. member-kept none (wipe (addressed (g .0))) _ _ tt tt m (λ x e. refl)
+        (λ x e. apart (memberGroup m .0) (g .0) x
+        (λ z. never _ w (addressed-word (size Members) (g .0) m (omega arith) s ∙ eq-eqb (memberGroup m .0) (g .0) z)) e) h;
   }
-    where
-      kept : (k : Kind) (r : Rec) → shaped (size k) r ≡ true → spares (deletes k) r ≡ true
-          → fits k (tables L Devices) (tables L Groups) r ≡ true
-          → fits k (change none (tables L Devices)) (change (wipe (addressed (g .0))) (tables L Groups)) r ≡ true
-      kept Devices r s w h = h
-      kept Binds r s w h =
-          bind-kept none (wipe (addressed (g .0))) (tables L Devices) (tables L Groups) tt tt r (λ x e. refl) (λ t x e. refl)
-          (λ t x e. apart (boundGroup r .0) (g .0) x (λ z. never _ w (to-group g r small s ∙ join t (eq-eqb (boundGroup r .0) (g .0) z))) e) h
-      kept Groups r s w h = h
-      kept Members r s w h =
-          member-kept none (wipe (addressed (g .0))) (tables L Devices) (tables L Groups) tt tt r (λ x e. refl)
-          (λ x e. apart (memberGroup r .0) (g .0) x
-          (λ z. never _ w (addressed-word (size Members) (g .0) r (omega arith) s ∙ eq-eqb (memberGroup r .0) (g .0) z)) e) h
 
   told-delete : Told deletes (lines DeleteGroup p)
   unfolding lines hasPage

@@ -93,24 +93,17 @@ module _ (L : Lent) (d : DeviceAddress) (small : d .0 < 32768) where
   unfolding releasing namesDevice nothing also spares fits Storable
   ok-release = record {
     order = orders-wipe Devices L _ _ (orders-wipe Members L _ _ (orders-only Binds L _ (order-wipe Binds L _)));
-    kept = kept;
+    binds = λ b s w h.
+        let n = or-parts (fromDevice d b) (toDevice d b) (not-true _ w) in
+        bind-kept (wipe (addressed (d .0))) none _ _ tt tt b
+        (λ x e. apart (bindSource b .0) (d .0) x (λ z. never _ (rw (n.0)) (from-device b s ∙ eq-eqb (bindSource b .0) (d .0) z)) e)
+        (λ t x e. apart (boundDevice b .0) (d .0) x (λ z. never _ (rw (n.1)) (to-device d b small s ∙ join (rw t) (eq-eqb (boundDevice b .0) (d .0) z))) e)
+        (λ t x e. refl) h;
+    members = λ m s w h. member-kept (wipe (addressed (d .0))) none _ _ tt tt m
+        (λ x e. apart (memberDevice m .0) (d .0) x
+        (λ z. never _ w (matches-word (size Members) 2 (d .0) m (omega arith) s ∙ eq-eqb (memberDevice m .0) (d .0) z)) e)
+        (λ x e. refl) h;
   }
-    where
-      kept : (k : Kind) (r : Rec) → shaped (size k) r ≡ true → spares (releasing d k) r ≡ true → fits k (tables L Devices) (tables L Groups) r ≡ true
-          → fits k (change (wipe (addressed (d .0))) (tables L Devices)) (change none (tables L Groups)) r ≡ true
-      kept Devices r s w h = h
-      kept Binds r s w h =
-          let n = or-parts (fromDevice d r) (toDevice d r) (not-true _ w) in
-          bind-kept (wipe (addressed (d .0))) none (tables L Devices) (tables L Groups) tt tt r
-          (λ x e. apart (bindSource r .0) (d .0) x (λ z. never _ (rw (n.0)) (from-device r s ∙ eq-eqb (bindSource r .0) (d .0) z)) e)
-          (λ t x e. apart (boundDevice r .0) (d .0) x (λ z. never _ (rw (n.1)) (to-device d r small s ∙ join (rw t) (eq-eqb (boundDevice r .0) (d .0) z))) e)
-          (λ t x e. refl) h
-      kept Groups r s w h = h
-      kept Members r s w h =
-          member-kept (wipe (addressed (d .0))) none (tables L Devices) (tables L Groups) tt tt r
-          (λ x e. apart (memberDevice r .0) (d .0) x
-          (λ z. never _ w (matches-word (size Members) 2 (d .0) r (omega arith) s ∙ eq-eqb (memberDevice r .0) (d .0) z)) e)
-          (λ x e. refl) h
 
 pub hosted-release : (L : Lent) (d : DeviceAddress) → Sane L → Hosted L (releasing d) (entries (releases d)) (release L d .outcome)
 unfolding settled release

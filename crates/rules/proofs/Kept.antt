@@ -19,7 +19,7 @@ use Rattle.rules.specs.Frame.{Lent, lentOf, tables, Effect, nothing, cha
 use Rattle.rules.specs.Exists.{hasUnit, unitExists, groupExists}
 use Rattle.rules.specs.Sound.{wholeRecords, destinationFits, bindFits, memberFits, fits, distinct, soundTable, sound}
 use Rattle.rules.proofs.Lists.{split, join}
-use Rattle.rules.proofs.Frames.{size-some, every-at, every-of, lent-changed}
+use Rattle.rules.proofs.Frames.{shapes, every-at, every-of, lent-changed}
 use Rattle.rules.proofs.Words.{shaped}
 use Rattle.rules.proofs.Changes.{Storable, New, spares, any-change, every-change, shaped-records, records-written, octets-written, length-written}
 use Rattle.rules.proofs.Distinct.{lone, distinct-change}
@@ -48,11 +48,17 @@ pub record InOrder (k : Kind) (L : Lent) (c : Change) : Type 0 where
   pub meets : New c (fits k (tables L Devices) (tables L Groups))
   pub alone : New c (lone (key k) (tables L k))
 
--- .. of the four: besides, a record that it spares names nothing that it takes away
+-- a record of the table k that the changes spare names nothing that they take away
+abbrev pub Keeps : Kind → Lent → Effect → Type 0
+Keeps k L x =
+    (r : Rec) → shaped (size k) r ≡ true → spares (x k) r ≡ true → fits k (tables L Devices) (tables L Groups) r ≡ true
+    → fits k (change (x Devices) (tables L Devices)) (change (x Groups) (tables L Groups)) r ≡ true
+
+-- .. of every table, and besides of the two whose records name others
 pub record Ok (L : Lent) (x : Effect) : Type 0 where
   pub order : (k : Kind) → InOrder k L (x k)
-  pub kept : (k : Kind) (r : Rec) → shaped (size k) r ≡ true → spares (x k) r ≡ true → fits k (tables L Devices) (tables L Groups) r ≡ true
-      → fits k (change (x Devices) (tables L Devices)) (change (x Groups) (tables L Groups)) r ≡ true
+  pub binds : Keeps Binds L x
+  pub members : Keeps Members L x
 
 pub order-none : (k : Kind) (L : Lent) → InOrder k L none
 unfolding Storable New
@@ -76,15 +82,22 @@ module _ (L : Lent) (x : Effect) (o : Ok L x) (S : Sane L) where
   pub table-changed : (k : Kind) → tables (changed x L) k ≡ change (x k) (tables L k)
   table-changed k =
       ap (records (size k)) (lent-changed x L k)
-      ∙ records-written (size k) (size-some k) (x k) (lentOf k L) (o .order k .shape) (S .octets k)
+      ∙ records-written (size k) (shapes k .0) (x k) (lentOf k L) (o .order k .shape) (S .octets k)
 
   pub length-changed : (k : Kind) → length (lentOf k (changed x L)) ≡ length (lentOf k L)
   length-changed k =
       ap length (lent-changed x L k)
-      ∙ length-written (size k) (size-some k) (x k) (lentOf k L) (o .order k .shape) (S .octets k) (whole-length k (lentOf k L) (whole-at L (S .sound) k))
+      ∙ length-written (size k) (shapes k .0) (x k) (lentOf k L) (o .order k .shape) (S .octets k) (whole-length k (lentOf k L) (whole-at L (S .sound) k))
 
-  shapes : (k : Kind) → all (shaped (size k)) (tables L k) ≡ true
-  shapes k = shaped-records (size k) (lentOf k L) (S .octets k)
+  keeps : (k : Kind) → Keeps k L x
+  unfolding fits
+  keeps Devices = λ r s w h. h
+  keeps Binds = o .binds
+  keeps Groups = λ r s w h. h
+  keeps Members = o .members
+
+  all-shaped : (k : Kind) → all (shaped (size k)) (tables L k) ≡ true
+  all-shaped k = shaped-records (size k) (lentOf k L) (S .octets k)
 
   whole-kept : (k : Kind) → wholeRecords k (lentOf k (changed x L)) ≡ true
   unfolding wholeRecords
@@ -94,14 +107,14 @@ module _ (L : Lent) (x : Effect) (o : Ok L x) (S : Sane L) where
   unfolding soundTable
   fits-kept k =
       rw (table-changed Devices, table-changed Groups, table-changed k)
-      (every-change (shaped (size k)) _ _ (tables L k) (shapes k) (split (split (sound-at L (S .sound) k) .0) .1)
-      (x k) (o .order k .room) (o .order k .shape) (o .order k .meets) (o .kept k))
+      (every-change (shaped (size k)) _ _ (tables L k) (all-shaped k) (split (split (sound-at L (S .sound) k) .0) .1)
+      (x k) (o .order k .room) (o .order k .shape) (o .order k .meets) (keeps k))
 
   distinct-kept : (k : Kind) → distinct (key k) (tables (changed x L) k) ≡ true
   unfolding soundTable
   distinct-kept k =
       rw (table-changed k)
-      (distinct-change (size k) (key k) (x k) (tables L k) (o .order k .room) (o .order k .shape) (o .order k .alone) (shapes k)
+      (distinct-change (size k) (key k) (x k) (tables L k) (o .order k .room) (o .order k .shape) (o .order k .alone) (all-shaped k)
       (split (sound-at L (S .sound) k) .1))
 
   sound-kept : (k : Kind) → soundTable k (tables (changed x L) Devices) (tables (changed x L) Groups) (lentOf k (changed x L)) ≡ true
@@ -111,7 +124,7 @@ module _ (L : Lent) (x : Effect) (o : Ok L x) (S : Sane L) where
   pub sane-changed : Sane (changed x L)
   sane-changed = record {
     sound = sound-of (changed x L) sound-kept;
-    octets = λ k. rw (lent-changed x L k) (octets-written (size k) (size-some k) (x k) (lentOf k L) (o .order k .shape) (S .octets k));
+    octets = λ k. rw (lent-changed x L k) (octets-written (size k) (shapes k .0) (x k) (lentOf k L) (o .order k .shape) (S .octets k));
   }
 
 -- What exists and is spared exists afterwards
@@ -158,15 +171,6 @@ module _ (cd cg : Change) (ds gs : List Rec) (fd : Storable cd ds) (fg : Storabl
       let a = split h in
       join (group-kept cg gs (memberGroup m) fg grp a.0) (unit-kept cd ds (memberDevice m) (memberUnit m) fd dev a.1)
 
-  -- where no device and no group goes, every record stays in order
-  pub all-kept : ((r : Rec) → spares cd r ≡ true) → ((r : Rec) → spares cg r ≡ true) → (k : Kind) (r : Rec)
-      → fits k ds gs r ≡ true → fits k (change cd ds) (change cg gs) r ≡ true
-  unfolding fits
-  all-kept d g Devices r h = h
-  all-kept d g Binds r h = bind-kept r (λ x e. d x) (λ w x e. d x) (λ w x e. g x) h
-  all-kept d g Groups r h = h
-  all-kept d g Members r h = member-kept r (λ x e. d x) (λ x e. g x) h
-
 pub ok-nothing : (L : Lent) → Ok L nothing
 unfolding nothing spares change
-ok-nothing L = record { order = λ k. order-none k L; kept = λ k r s w h. h }
+ok-nothing L = record { order = λ k. order-none k L; binds = λ r s w h. h; members = λ r s w h. h }

@@ -2,9 +2,9 @@
 use mathlib.Core.Path.{_≡_, refl, sym, ap, _∙_}
 use mathlib.Core.Bool.{Bool, true, false, false≢true, cond, not, _&&_, _||_}
 use mathlib.Core.List.{List, [], _∷_, _++_, map, flatMap}
-use Prim.Native.Nat.{ℕ, zero, suc, _+_, _≤_}
+use Prim.Native.Nat.{ℕ, zero, suc, _+_, _≤_, _<_}
 use native.Mathlib.Omega.{arith}
-use lib.ListN.{length, take, drop, replicate}
+use lib.ListN.{length, getD, take, drop, replicate}
 use Rattle.rules.specs.Lists.{_&_, ask, tick, count, any, all, keep, firstOf}
 
 unfoldable pub some? : ℕ → Bool
@@ -130,10 +130,17 @@ module _ {A : Type 0} where
       step false true w h ih = absurd (false≢true (w refl))
       step false false w h ih = ih h
 
-  pub all-any : (l : List A) → all (λ x. true) l ≡ true
+  -- what holds of every element, and of all, holds of all, and of each
+  pub all-of : (p : A → Bool) → ((x : A) → p x ≡ true) → (l : List A) → all p l ≡ true
   unfolding all
-  all-any [] = refl
-  all-any (x ∷ l) = all-any l
+  all-of p h [] = refl
+  all-of p h (x ∷ l) = rw (h x) (all-of p h l)
+
+  pub all-at : (p : A → Bool) (l : List A) (i : ℕ) (d : A) → i < length l → all p l ≡ true → p (getD l i d) ≡ true
+  unfolding all
+  all-at p [] i d h a = absurd (omega arith)
+  all-at p (x ∷ l) zero d h a = and-parts (p x) (all p l) a .0
+  all-at p (x ∷ l) (suc i) d h a = all-at p l i d (omega arith) (and-parts (p x) (all p l) a .1)
 
   pub all-keep : (p q : A → Bool) (l : List A) → all p l ≡ true → all p (keep q l) ≡ true
   unfolding all keep

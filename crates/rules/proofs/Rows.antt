@@ -45,16 +45,20 @@ bind1 = bind 0x00 0x04 0x02
 abbrev bind2 : List ℕ
 bind2 = bind 0x80 0x01 0x00
 
+-- tables with these devices, and with these binds, groups and members
+abbrev holding : List ℕ → List ℕ → List ℕ → Lent
+holding bs gs ms = lent devices bs gs ms
+
 -- the tables of "Rows to try" with these binds in them
 abbrev with-binds : List ℕ → Lent
-with-binds bs = lent devices (padded 512 bs) groups members
+with-binds bs = holding (padded 512 bs) groups members
 
 abbrev start : Lent
 start = with-binds []
 
 -- .. with a bind table that is full
 abbrev full : List ℕ → Lent
-full bs = lent devices bs groups members
+full bs = holding bs groups members
 
 -- Messages and answers
 
@@ -125,12 +129,17 @@ rows =
     -- the sample of `links`: 4:02 once, though by bind and by group, and 3:01, the sender, not at all
     ∷ row (with-binds (bind1 ++ bind2)) request
     (answer (Forwarded 2) (with-binds (bind1 ++ bind2)) reply (over (0x00 ∷ 0x04 ∷ 0x02 ∷ 0x00 ∷ 0x05 ∷ 0x01 ∷ []) list))
+    ∷ []
+
+-- "Errors that look reasonable", and the order of the checks
+abbrev further : List Row
+further =
     -- a bind that is there in a full table: 0x02 and not 0xFE; another one: 0xFE
-    ∷ row (full bind1) (adding bind1) (codes (full bind1) 0x02)
+    row (full bind1) (adding bind1) (codes (full bind1) 0x02)
     ∷ row (full bind1) (adding bind2) (codes (full bind1) 0xFE)
     -- Delete Group takes the group, its members and the binds to it, and no bind to the device of its number
     ∷ row (full (bind2 ++ bind1)) (grouping 0x03 0x02 (0x00 ∷ 0x01 ∷ []))
-    (answers (lent devices (replicate 8 0xFF ++ bind1) (replicate 256 0xFF) (replicate 640 0xFF)) 0x03 0x03 0x02 (0x00 ∷ []))
+    (answers (holding (replicate 8 0xFF ++ bind1) (replicate 256 0xFF) (replicate 640 0xFF)) 0x03 0x03 0x02 (0x00 ∷ []))
     -- rights are asked before the length: seven octets from device 4
     ∷ row start (binds 0x04 0x01 (0x00 ∷ 0x03 ∷ 0x01 ∷ 0x82 ∷ 0x00 ∷ 0x00 ∷ 0x04 ∷ [])) (answers start 0x04 0x02 0x01 (0x01 ∷ []))
     -- reserved bits and transport are ignored, and 0 in the reply: P1 with all of them set
@@ -140,7 +149,7 @@ rows =
     ∷ row start (commands 0x03 0x11 0x02 0x01 0x07 bind1) (refuses start WrongDataLength)
     -- Create Group "AB" gets the smallest address not in use
     ∷ row start (commands 0x03 0x02 0x03 0x01 0x03 (0x02 ∷ 0x41 ∷ 0x42 ∷ []))
-    (answers (lent devices (padded 512 []) (padded 256 (named 0x01 (0x53 ∷ []) ++ named 0x02 (0x41 ∷ 0x42 ∷ []))) members) 0x03 0x03 0x01
+    (answers (holding (padded 512 []) (padded 256 (named 0x01 (0x53 ∷ []) ++ named 0x02 (0x41 ∷ 0x42 ∷ []))) members) 0x03 0x03 0x01
     (0x00 ∷ 0x00 ∷ 0x02 ∷ []))
     -- Get Group Info asks no rights, and lists the members by rising device and unit: from device 4
     ∷ row start (grouping 0x04 0x05 (0x00 ∷ 0x01 ∷ []))
@@ -154,39 +163,9 @@ abbrev pub AsTold : List Row → Type 0
 AsTold [] = Unit {0}
 AsTold (x ∷ xs) = (message (x .start) (x .sent) reply list ≡ x .result) × AsTold xs
 
-pub as-told : AsTold rows
+pub as-told : AsTold rows × AsTold further
 unfolding whole
 as-told = (
-  refl,
-  (
-    refl,
-    (
-      refl,
-      (
-        refl,
-        (
-          refl,
-          (
-            refl,
-            (
-              refl,
-              (
-                refl,
-                (
-                  refl,
-                  (
-                    refl,
-                    (
-                      refl,
-                      (refl, (refl, (refl, (refl, (refl, (refl, (refl, (refl, (refl, (refl, (refl, tt))))))))))),
-                    ),
-                  ),
-                ),
-              ),
-            ),
-          ),
-        ),
-      ),
-    ),
-  ),
+  (refl, (refl, (refl, (refl, (refl, (refl, (refl, (refl, (refl, (refl, (refl, (refl, (refl, tt))))))))))))),
+  (refl, (refl, (refl, (refl, (refl, (refl, (refl, (refl, (refl, tt))))))))),
 )

@@ -133,12 +133,16 @@ four = 0x00 ∷ 0x01 ∷ 0x00 ∷ 0x04 ∷ 0x02 ∷ []
 abbrev five : Rec
 five = 0x00 ∷ 0x01 ∷ 0x00 ∷ 0x05 ∷ 0x01 ∷ []
 
+-- tables that hold these octets
+abbrev holding : List ℕ → List ℕ → List ℕ → List ℕ → Lent
+holding ds bs gs ms = lent ds bs gs ms
+
 abbrev start : Lent
-start = lent (free 12) (free 16) (free 16) (free 10)
+start = holding (free 12) (free 16) (free 16) (free 10)
 
 -- .. with these binds, groups and members, and with no group: three devices admitted
 abbrev with-group : List ℕ → List ℕ → Lent
-with-group bs ms = lent three-devices bs S ms
+with-group bs ms = holding three-devices bs S ms
 
 -- a command from 3:01 to a server interface: UID, member, payload
 abbrev gives : ℕ → ℕ → List ℕ → Call
@@ -153,9 +157,9 @@ to-five = 0x00 ∷ 0x05 ∷ 0x01 ∷ []
 
 abbrev lines : List Line
 lines =
-    line (admits (device 3) 1 2) true (place (lent (0x00 ∷ 0x03 ∷ 0x01 ∷ 0x02 ∷ free 8) (free 16) (free 16) (free 10)) [] []) Nobody []
-    ∷ line (admits (device 4) 0 2) true (place (lent two-devices (free 16) (free 16) (free 10)) [] []) Nobody []
-    ∷ line (admits (device 5) 0 1) true (place (lent three-devices (free 16) (free 16) (free 10)) [] []) Nobody []
+    line (admits (device 3) 1 2) true (place (holding (0x00 ∷ 0x03 ∷ 0x01 ∷ 0x02 ∷ free 8) (free 16) (free 16) (free 10)) [] []) Nobody []
+    ∷ line (admits (device 4) 0 2) true (place (holding two-devices (free 16) (free 16) (free 10)) [] []) Nobody []
+    ∷ line (admits (device 5) 0 1) true (place (holding three-devices (free 16) (free 16) (free 10)) [] []) Nobody []
     -- Create Group "S"; Add to Group 4:02 and 5:01
     ∷ line (gives 0x03 0x01 (0x01 ∷ 0x53 ∷ [])) true (place (with-group (free 16) (free 10)) [] []) Nobody []
     ∷ line (gives 0x03 0x03 four) true (place (with-group (free 16) (four ++ free 5)) [] (four ∷ [])) Nobody []
@@ -168,10 +172,10 @@ lines =
     ∷ line (gives 0x03 0x04 four) true (place (with-group (A ++ B) (free 5 ++ five)) (B ∷ A ∷ []) (five ∷ [])) (Forwarded 2) (to-four ++ to-five)
     ∷ line (gives 0x02 0x05 (0x00 ∷ 0x04 ∷ [])) true (place (with-group (free 8 ++ B) (free 5 ++ five)) (B ∷ []) (five ∷ [])) (Forwarded 1) to-five
     -- Release and admit device 5
-    ∷ line (releases (device 5)) true (place (lent two-devices (free 8 ++ B) S (free 10)) (B ∷ []) []) Nobody []
+    ∷ line (releases (device 5)) true (place (holding two-devices (free 8 ++ B) S (free 10)) (B ∷ []) []) Nobody []
     ∷ line (admits (device 5) 0 1) true (place (with-group (free 8 ++ B) (free 10)) (B ∷ []) []) Nobody []
     -- Delete Group 1, Create Group "S"
-    ∷ line (gives 0x03 0x02 (0x00 ∷ 0x01 ∷ [])) true (place (lent three-devices (free 16) (free 16) (free 10)) [] []) Nobody []
+    ∷ line (gives 0x03 0x02 (0x00 ∷ 0x01 ∷ [])) true (place (holding three-devices (free 16) (free 16) (free 10)) [] []) Nobody []
     ∷ line (gives 0x03 0x01 (0x01 ∷ 0x53 ∷ [])) true (place (with-group (free 16) (free 10)) [] []) Nobody []
     ∷ []
 

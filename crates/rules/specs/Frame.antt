@@ -1,11 +1,12 @@
--- All lent tables as one frame: one of them by its kind, and what a call does to each. A further table is a further line here, and no command knows.
+-- All lent tables as one frame: one of them by its kind, and what a call does to each. What a command looks at and changes is said by kind, so that a
+-- further table changes no command.
 use mathlib.Core.Bool.{Bool, cond}
-use mathlib.Core.List.{List}
+use mathlib.Core.List.{List, [], _∷_}
 use Prim.Native.Nat.{ℕ}
 use lib.Dec.{eqb}
 use Rattle.words.specs.declared.Kind.{Kind}
 use Rattle.words.specs.declared.Kind.the-variants.{Devices, Binds, Groups, Members}
-use Rattle.rules.specs.Lists.{_&_}
+use Rattle.rules.specs.Lists.{all}
 use Rattle.rules.specs.Tables.{Rec, records, Change, none, written}
 use Rattle.rules.specs.Layout.{size}
 
@@ -19,6 +20,10 @@ pub record Lent : Type 0 where
 abbrev pub lent : List ℕ → List ℕ → List ℕ → List ℕ → Lent
 lent ds bs gs ms = record { devices = ds; binds = bs; groups = gs; members = ms }
 
+-- .. by kind
+abbrev pub made : (Kind → List ℕ) → Lent
+made t = lent (t Devices) (t Binds) (t Groups) (t Members)
+
 -- one of them
 abbrev pub lentOf : Kind → Lent → List ℕ
 lentOf Devices L = L .devices
@@ -28,13 +33,17 @@ lentOf Members L = L .members
 
 -- each of them, made anew
 abbrev pub each : (Kind → List ℕ → List ℕ) → Lent → Lent
-each f L = lent (f Devices (L .devices)) (f Binds (L .binds)) (f Groups (L .groups)) (f Members (L .members))
+each f L = made (λ k. f k (lentOf k L))
+
+-- their order as arguments
+abbrev pub kinds : List Kind
+kinds = Devices ∷ Binds ∷ Groups ∷ Members ∷ []
 
 -- does it hold of every table?
 unfoldable pub everyTable : (Kind → Bool) → Bool
-everyTable p = p Devices & p Binds & p Groups & p Members
+everyTable p = all p kinds
 
--- their order as arguments, which tells two kinds apart
+-- the place in this order, which tells two kinds apart
 abbrev pub place : Kind → ℕ
 place Devices = 0
 place Binds = 1

@@ -16,34 +16,36 @@ use Rattle.rules.specs.Octets.{octet, word, octets, flag, number, joined
 use Rattle.rules.specs.Units.{unitAt}
 use Rattle.rules.specs.Tables.{Rec, matches, addressed}
 
--- the octets of a record
-abbrev pub size : Kind → ℕ
-size Devices = 4
-size Binds = 8
-size Groups = 16
-size Members = 5
-
--- how many records there may be
-abbrev pub most : Kind → ℕ
-most Devices = 64
-most Binds = 64
-most Groups = 16
-most Members = 128
-
--- the octets of a table at full size
-abbrev pub full : Kind → ℕ
-full k = most k * size k
-
 -- the octets of an address
 abbrev pub addressLength : ℕ
 addressLength = 2
 
--- how many octets must not be there twice: the address in devices and groups, the record in binds and members
+pub record Shape : Type 0 where
+  -- the octets of a record
+  pub size : ℕ
+  -- how many records there may be
+  pub most : ℕ
+  -- how many octets must not be there twice: the address in devices and groups, the record in binds and members
+  pub key : ℕ
+
+abbrev pub shape : Kind → Shape
+shape Devices = record { size = 4; most = 64; key = addressLength }
+shape Binds = record { size = 8; most = 64; key = 8 }
+shape Groups = record { size = 16; most = 16; key = addressLength }
+shape Members = record { size = 5; most = 128; key = 5 }
+
+abbrev pub size : Kind → ℕ
+size k = shape k .size
+
+abbrev pub most : Kind → ℕ
+most k = shape k .most
+
 abbrev pub key : Kind → ℕ
-key Devices = addressLength
-key Binds = size Binds
-key Groups = addressLength
-key Members = size Members
+key k = shape k .key
+
+-- the octets of a table at full size
+abbrev pub full : Kind → ℕ
+full k = most k * size k
 
 -- Device: address 2, rights 1, highest unit 1
 
