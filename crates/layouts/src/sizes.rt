@@ -12,38 +12,39 @@ use words::Kind;
 ghost use mathlib.Core.Path.{_≡_};
 ghost use Rattle.rules.specs.Layout.{size, most, key};
 
-// The octets of a record.
-pub fn size_of(kind: Kind) -> usize
-    ensures { λ r. ⌜ r ≡ size kind ⌝ }
-{
-    match kind {
-        Kind::Devices => DEVICE,
-        Kind::Binds => BIND,
-        Kind::Groups => GROUP,
-        Kind::Members => MEMBER,
-    }
+// The octets of a record, how many records there may be, and how many octets must not be there twice: the address in devices and groups, the record in
+// binds and members.
+pub struct Shape {
+    pub size: usize,
+    pub most: usize,
+    pub key: usize,
 }
 
-// How many records there may be.
-pub fn most_of(kind: Kind) -> usize
-    ensures { λ r. ⌜ r ≡ most kind ⌝ }
+pub fn shape_of(kind: Kind) -> Shape
+    ensures size { λ r. ⌜ r .size ≡ size kind ⌝ }
+    ensures most { λ r. ⌜ r .most ≡ most kind ⌝ }
+    ensures key { λ r. ⌜ r .key ≡ key kind ⌝ }
 {
     match kind {
-        Kind::Devices => MOST_DEVICES,
-        Kind::Binds => MOST_BINDS,
-        Kind::Groups => MOST_GROUPS,
-        Kind::Members => MOST_MEMBERS,
-    }
-}
-
-// How many octets must not be there twice: the address in devices and groups, the record in binds and members.
-pub fn key_of(kind: Kind) -> usize
-    ensures { λ r. ⌜ r ≡ key kind ⌝ }
-{
-    match kind {
-        Kind::Devices => ADDRESS,
-        Kind::Binds => BIND,
-        Kind::Groups => ADDRESS,
-        Kind::Members => MEMBER,
+        Kind::Devices => Shape {
+            size: DEVICE,
+            most: MOST_DEVICES,
+            key: ADDRESS,
+        },
+        Kind::Binds => Shape {
+            size: BIND,
+            most: MOST_BINDS,
+            key: BIND,
+        },
+        Kind::Groups => Shape {
+            size: GROUP,
+            most: MOST_GROUPS,
+            key: ADDRESS,
+        },
+        Kind::Members => Shape {
+            size: MEMBER,
+            most: MOST_MEMBERS,
+            key: MEMBER,
+        },
     }
 }

@@ -19,6 +19,10 @@ pub and-parts : (a b : Bool) → (a && b) ≡ true → (a ≡ true) × (b ≡ tr
 and-parts true b h = (refl, h)
 and-parts false b h = absurd (false≢true h)
 
+pub and-true : (b : Bool) → (b && true) ≡ b
+and-true true = refl
+and-true false = refl
+
 pub never : (b : Bool) → not b ≡ true → b ≡ true → ⊥
 never true h g = false≢true h
 never false h g = false≢true g

@@ -1,7 +1,5 @@
 // "Tables are sound if" (document 01, Tables): each rule is one check, over any table.
-use layouts::key_of;
-use layouts::most_of;
-use layouts::size_of;
+use layouts::shape_of;
 use words::Kind;
 ghost use mathlib.Core.Path.{_≡_};
 ghost use Prim.Native.Nat.{_<_, _≤_};
@@ -18,9 +16,8 @@ ghost use Rattle.soundness.specs.Asking.{freeOr, notAgain};
 fn whole_records(kind: Kind, given: &[u8]) -> bool
     ensures { λ r. ⌜ r ≡ wholeRecords kind (now (given .entry)) ⌝ }
 {
-    let size = size_of(kind);
-    let most = most_of(kind);
-    (given.len() % size == 0) & (given.len() <= most * size)
+    let shape = shape_of(kind);
+    (given.len() % shape.size == 0) & (given.len() <= shape.most * shape.size)
 }
 
 // "each record is free or has its fields in range"
@@ -39,7 +36,8 @@ fn all_fit(kind: Kind, given: &[u8], devices: &[u8], groups: &[u8]) -> bool
     ensures { λ r. ⌜ r ≡ all (fits kind (table Devices (now (devices .entry))) (table Groups (now (groups .entry))))
         (used (table kind (now (given .entry)))) ⌝ }
 {
-    let size = size_of(kind);
+    let shape = shape_of(kind);
+    let size = shape.size;
     let mut at = 0;
     while size <= given.len() - at {
         if !free_or_fits(kind, records::record_at(given, size, at), devices, groups) {
@@ -84,8 +82,9 @@ fn table_sound(kind: Kind, given: &[u8], devices: &[u8], groups: &[u8]) -> bool
     if !whole_records(kind, given) {
         return false;
     }
+    let shape = shape_of(kind);
     let fit = all_fit(kind, given, devices, groups);
-    let once = distinct(given, size_of(kind), key_of(kind));
+    let once = distinct(given, shape.size, shape.key);
     fit & once
 }
 
@@ -97,5 +96,5 @@ pub fn sound(devices: &[u8], binds: &[u8], groups: &[u8], members: &[u8]) -> boo
     let b = table_sound(Kind::Binds, binds, devices, groups);
     let g = table_sound(Kind::Groups, groups, devices, groups);
     let m = table_sound(Kind::Members, members, devices, groups);
-    d & b & g & m
+    d & (b & (g & m))
 }

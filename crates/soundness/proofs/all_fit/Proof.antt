@@ -11,7 +11,7 @@ use Rattle.rules.specs.Tables.{used}
 use Rattle.rules.specs.Sound.{fits}
 use Rattle.rules.proofs.Records.{Walking, walking-start, walking-more, walking-hit, walking-end, length-record}
 use Rattle.soundness.proofs.Asking.{all-hit, all-miss}
-use Rattle.soundness.proofs.Sizes.{sizes}
+use Rattle.rules.proofs.Frames.{shapes}
 use Rattle.soundness.proofs.all_fit.Statement.{statement}
 use Rattle.soundness.proofs.all_fit.Tie as tie
 
@@ -21,20 +21,20 @@ Inv-loop kind given devices groups size at₀ at = Walking (λ t. all (fits kind
 abbrev μ-loop : tie.MeasureT-loop
 μ-loop kind given devices groups size at₀ at = length given - at
 
-positive : (s : tie.After-size-of Inv-loop μ-loop) → 0 < s .size-of .result
-positive s = rw (s .size-of .ensures) (sizes (s .before .before .before .before .args .kind) .0)
+positive : (s : tie.After-shape-of Inv-loop μ-loop) → 0 < s .shape-of .result .size
+positive s = rw (s .shape-of .ensures .0) (shapes (s .before .before .before .before .args .kind) .0)
 
 free-or-fits-requires : tie.Need-free-or-fits-requires Inv-loop μ-loop
 free-or-fits-requires c κs =
     let l = c .before .before in
     let s = l .before in
-    ap length (c .record-at .ensures) ∙ length-record (s .size-of .result) (l .loop .at) (s .before .before .before .before .args .given .now) (omega arith)
-    ∙ s .size-of .ensures
+    ap length (c .record-at .ensures) ∙ length-record (s .shape-of .result .size) (l .loop .at) (s .before .before .before .before .args .given .now) (omega arith)
+    ∙ s .shape-of .ensures .0
 
 returns : tie.Need-returns Inv-loop μ-loop
 returns c =
     let l = c .before .before .before .before in
-    rw (sym (l .before .size-of .ensures)) (walking-hit (l .loop .inv) (positive (l .before)) (omega arith)
+    rw (sym (l .before .shape-of .ensures .0)) (walking-hit (l .loop .inv) (positive (l .before)) (omega arith)
     (all-hit _ _ (c .before .before .record-at .ensures) (c .before .free-or-fits .ensures) (c .if1 .taken)))
 
 loop-again : tie.Need-loop-again Inv-loop μ-loop
@@ -45,7 +45,7 @@ loop-again c =
 
 returns-2 : tie.Need-returns-2 Inv-loop μ-loop
 unfolding all used keep
-returns-2 c = rw (sym (c .before .before .size-of .ensures)) (walking-end (c .before .loop .inv) (omega arith))
+returns-2 c = rw (sym (c .before .before .shape-of .ensures .0)) (walking-end (c .before .loop .inv) (omega arith))
 
 pub all-fit-spec : {M : Type 1} → statement M
 all-fit-spec = tie.close (tie.spec Inv-loop μ-loop
