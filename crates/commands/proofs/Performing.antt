@@ -16,7 +16,7 @@ use Rattle.words.specs.declared.Command.the-variants.{CreateGroup, DeleteGroup,
 use Rattle.rules.specs.Octets.{over}
 use Rattle.rules.specs.Tables.{Change, written}
 use Rattle.rules.specs.Layout.{size}
-use Rattle.rules.specs.Frame.{Lent, lent, lentOf, tables, also, nothing, only, changed}
+use Rattle.rules.specs.Frame.{Lent, lentOf, tables, also, nothing, only, changed}
 use Rattle.rules.specs.Exists.{hasRights}
 use Rattle.rules.specs.Payloads.{groupNamed}
 use Rattle.rules.specs.Commands.{row, rightsFit, payloadFits, judge, onOk, done, replyPayload}
@@ -110,20 +110,24 @@ module _ (L : Lent) (p out : List ℕ) where
       )
 
   -- Delete Group changes three tables
+
+  abbrev pub three : List ℕ → List ℕ → List ℕ → Lent
+  three bs gs ms = replaced Binds bs (replaced Groups gs (replaced Members ms L))
+
   changed-three : (c : Code) (x y z : Change) → onOk c (changed (also Groups y (also Members z (only Binds x))) L) L
-      ≡ lent (L .devices) (onOk c (written (size Binds) x (L .binds)) (L .binds)) (onOk c (written (size Groups) y (L .groups)) (L .groups))
+      ≡ three (onOk c (written (size Binds) x (L .binds)) (L .binds)) (onOk c (written (size Groups) y (L .groups)) (L .groups))
       (onOk c (written (size Members) z (L .members)) (L .members))
-  unfolding onOk changed also nothing written
+  unfolding onOk changed also nothing written replaced
   changed-three c x y z = step (eqb (c .0) (ok .0))
     where
       step : (b : Bool) → cond b (changed (also Groups y (also Members z (only Binds x))) L) L
-          ≡ lent (L .devices) (cond b (written (size Binds) x (L .binds)) (L .binds)) (cond b (written (size Groups) y (L .groups)) (L .groups))
+          ≡ three (cond b (written (size Binds) x (L .binds)) (L .binds)) (cond b (written (size Groups) y (L .groups)) (L .groups))
           (cond b (written (size Members) z (L .members)) (L .members))
       step true = refl
       step false = refl
 
   pub acts-delete-group : {c : Code} {bs gs ms : List ℕ} → deleted c bs gs ms ≡ deleting (groupNamed p) (L .binds) (L .groups) (L .members)
-      → performed 1 (lent (L .devices) bs gs ms) (over (c .0 ∷ []) out) ≡ performing L DeleteGroup p (row DeleteGroup .verdict (tables L) p) out
+      → performed 1 (three bs gs ms) (over (c .0 ∷ []) out) ≡ performing L DeleteGroup p (row DeleteGroup .verdict (tables L) p) out
   unfolding performing replyPayload row deleting
   acts-delete-group {c} {bs} {gs} {ms} d =
       let v : Code = row DeleteGroup .verdict (tables L) p in

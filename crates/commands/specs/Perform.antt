@@ -1,12 +1,25 @@
 -- A command whole: the payload of its reply over the part of the lent reply behind the header, and the tables after it.
+use mathlib.Core.Path.{_≡_}
+use mathlib.Core.Bool.{true}
 use mathlib.Core.List.{List}
 use Prim.Native.Nat.{ℕ}
 use lib.ListN.{length}
 use Rattle.words.specs.declared.Code.{Code}
+use Rattle.words.specs.declared.DeviceAddress.{DeviceAddress}
 use Rattle.words.specs.declared.Command.{Command}
 use Rattle.rules.specs.Octets.{over}
-use Rattle.rules.specs.Frame.{Lent, tables, changed}
-use Rattle.rules.specs.Commands.{done, replyPayload}
+use Rattle.rules.specs.Frame.{Lent, lent, tables, changed}
+use Rattle.rules.specs.Sound.{sound}
+use Rattle.rules.specs.Commands.{row, judge, done, replyPayload}
+
+-- the tables that commands use, beside all else that L has
+abbrev pub beside : Lent → List ℕ → List ℕ → List ℕ → List ℕ → Lent
+beside L ds bs gs ms = lent ds bs gs ms
+
+-- what commands may count on: these are of tables that are sound
+pub record Workable (ds bs gs ms : List ℕ) : Type 0 where
+  pub lent : Lent
+  pub sound : sound (beside lent ds bs gs ms) ≡ true
 
 -- how many octets were written, the tables, and the part of the reply
 pub record Performed : Type 0 where
@@ -22,3 +35,10 @@ unfoldable pub performing : Lent → Command → List ℕ → Code → List ℕ 
 performing L k p c out =
     let q : List ℕ = replyPayload (tables L) k p c in
     performed (length q) (changed (done (tables L) k p c) L) (over q out)
+
+-- .. with the code of its own checks, and of all
+abbrev pub acting : Lent → Command → List ℕ → List ℕ → Performed
+acting L k p out = performing L k p (row k .verdict (tables L) p) out
+
+abbrev pub judging : Lent → DeviceAddress → Command → List ℕ → List ℕ → Performed
+judging L s k p out = performing L k p (judge (tables L) s k p) out

@@ -1,4 +1,4 @@
-// A command whole: rights, length, then its own handler (document 01, Commands and codes).
+// A command whole: rights, length, then its own handler (document 01, Commands and codes). It gets the tables that commands use, whatever else is lent.
 use words::Code;
 use words::Command;
 use words::DeviceAddress;
@@ -8,11 +8,10 @@ ghost use Prim.Native.Nat.{_+_, _≤_};
 ghost use lib.ListN.{length};
 ghost use Rattle.words.specs.Names.{headerLength, longest};
 ghost use Rattle.words.specs.declared.Kind.the-variants.{Devices};
-ghost use Rattle.rules.specs.Frame.{lent, table, tables};
+ghost use Rattle.rules.specs.Frame.{Lent, table};
 ghost use Rattle.rules.specs.Exists.{hasRights};
-ghost use Rattle.rules.specs.Sound.{sound};
-ghost use Rattle.rules.specs.Commands.{row, judge};
-ghost use Rattle.commands.specs.Perform.{performed, performing};
+ghost use Rattle.rules.specs.Commands.{row};
+ghost use Rattle.commands.specs.Perform.{beside, Workable, performed, acting, judging};
 
 // The command's own handler. The code that it gives is the payload of the reply, unless more is named.
 fn act(
@@ -24,12 +23,12 @@ fn act(
     payload: &[u8],
     out: &mut [u8],
 ) -> usize
-    requires { ⌜ (sound (lent (now devices) (now binds) (now groups) (now members)) ≡ true)
+    requires { ⌜ Workable (now devices) (now binds) (now groups) (now members)
         × (length (now payload) ≡ row command .length (now payload)) × (longest ≤ headerLength + length (now out)) ⌝ }
-    ensures { λ r. ⌜ performed r (lent (now (devices .entry)) (now (binds .exit)) (now (groups .exit)) (now (members .exit))) (now (out .exit))
-        ≡ performing (lent (now (devices .entry)) (now (binds .entry)) (now (groups .entry)) (now (members .entry))) command (now (payload .entry))
-        (row command .verdict (tables (lent (now (devices .entry)) (now (binds .entry)) (now (groups .entry)) (now (members .entry)))) (now (payload .entry)))
-        (now (out .entry)) ⌝ }
+    ensures { λ r. ⌜ ((L : Lent)
+        → performed r (beside L (now (devices .entry)) (now (binds .exit)) (now (groups .exit)) (now (members .exit))) (now (out .exit))
+        ≡ acting (beside L (now (devices .entry)) (now (binds .entry)) (now (groups .entry)) (now (members .entry))) command
+        (now (payload .entry)) (now (out .entry))) ⌝ }
 {
     match command {
         Command::AddBind => {
@@ -78,11 +77,11 @@ pub fn perform(
     payload: &[u8],
     out: &mut [u8],
 ) -> usize
-    requires { ⌜ (sound (lent (now devices) (now binds) (now groups) (now members)) ≡ true) × (longest ≤ headerLength + length (now out)) ⌝ }
-    ensures { λ r. ⌜ performed r (lent (now (devices .entry)) (now (binds .exit)) (now (groups .exit)) (now (members .exit))) (now (out .exit))
-        ≡ performing (lent (now (devices .entry)) (now (binds .entry)) (now (groups .entry)) (now (members .entry))) command (now (payload .entry))
-        (judge (tables (lent (now (devices .entry)) (now (binds .entry)) (now (groups .entry)) (now (members .entry)))) source command (now (payload .entry)))
-        (now (out .entry)) ⌝ }
+    requires { ⌜ Workable (now devices) (now binds) (now groups) (now members) × (longest ≤ headerLength + length (now out)) ⌝ }
+    ensures { λ r. ⌜ ((L : Lent)
+        → performed r (beside L (now (devices .entry)) (now (binds .exit)) (now (groups .exit)) (now (members .exit))) (now (out .exit))
+        ≡ judging (beside L (now (devices .entry)) (now (binds .entry)) (now (groups .entry)) (now (members .entry))) source command
+        (now (payload .entry)) (now (out .entry))) ⌝ }
 {
     let asked = payloads::demands(command, payload);
     if !rights_fit(devices, source, asked.rights) {

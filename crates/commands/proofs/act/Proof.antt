@@ -16,7 +16,7 @@ add-bind-requires : tie.Need-add-bind-requires
 unfolding row
 add-bind-requires c κs =
     let start = c .before .before .before .before .before .before .before .before .before .before in
-    let z = sizes _ (start .pre .0) in
+    let z = sizes _ (start .pre .0 .sound) in
     let n = rw (c .before .before .enum-told .given .1) at (start .pre .1) in
     (n, z .whole Binds)
 
@@ -24,7 +24,7 @@ remove-binds-requires : tie.Need-remove-binds-requires
 unfolding row
 remove-binds-requires c κs =
     let start = c .before .before .before .before .before .before .before .before .before .before in
-    let z = sizes _ (start .pre .0) in
+    let z = sizes _ (start .pre .0 .sound) in
     let n = rw (c .before .before .command .given .1) at (start .pre .1) in
     (n, z .whole Binds)
 
@@ -32,7 +32,7 @@ create-requires : tie.Need-create-requires
 unfolding row
 create-requires c κs =
     let start = c .before .before .before .before .before .before .before .before .before .before in
-    let z = sizes _ (start .pre .0) in
+    let z = sizes _ (start .pre .0 .sound) in
     let n = rw (c .before .before .enum-told2 .given .1) at (start .pre .1) in
     (n, z .whole Groups, z .within Groups, omega (arith, start .pre .2))
 
@@ -40,7 +40,7 @@ delete-group-requires : tie.Need-delete-group-requires
 unfolding row
 delete-group-requires c κs =
     let start = c .before .before .before .before .before .before .before .before .before .before .before in
-    let z = sizes _ (start .pre .0) in
+    let z = sizes _ (start .pre .0 .sound) in
     let n = rw (c .before .before .before .enum-told3 .given .1) at (start .pre .1) in
     (n, z .whole Binds, z .whole Groups, z .whole Members)
 
@@ -48,7 +48,7 @@ add-to-group-requires : tie.Need-add-to-group-requires
 unfolding row
 add-to-group-requires c κs =
     let start = c .before .before .before .before .before .before .before .before .before .before in
-    let z = sizes _ (start .pre .0) in
+    let z = sizes _ (start .pre .0 .sound) in
     let n = rw (c .before .before .enum-told4 .given .1) at (start .pre .1) in
     (n, z .whole Members)
 
@@ -56,7 +56,7 @@ remove-from-group-requires : tie.Need-remove-from-group-requires
 unfolding row
 remove-from-group-requires c κs =
     let start = c .before .before .before .before .before .before .before .before .before in
-    let z = sizes _ (start .pre .0) in
+    let z = sizes _ (start .pre .0 .sound) in
     let n = rw (c .before .enum-told5 .given .1) at (start .pre .1) in
     (n, z .whole Members)
 
@@ -64,13 +64,13 @@ get-group-info-requires : tie.Need-get-group-info-requires
 unfolding row
 get-group-info-requires c κs =
     let start = c .before .before .before .before .before .before .before .before .before .before .before in
-    let z = sizes _ (start .pre .0) in
+    let z = sizes _ (start .pre .0 .sound) in
     let n = rw (c .before .before .before .enum-told6 .given .1) at (start .pre .1) in
     (z .named, z .within Members, n, start .pre .2)
 
 returns : tie.Need-returns
 unfolding row replaced also
-returns c =
+returns c = λ L.
     let w = c .before .before .write-code .ensures in
     let c8 = c .before .before .before .before .before .before .before .before in
     rw (c8 .before .enum-told .given .1, w .0, w .1)
@@ -78,7 +78,7 @@ returns c =
 
 returns-2 : tie.Need-returns-2
 unfolding row replaced also
-returns-2 c =
+returns-2 c = λ L.
     let w = c .before .before .write-code2 .ensures in
     let c8 = c .before .before .before .before .before .before .before .before in
     rw (c8 .before .command .given .1, w .0, w .1)
@@ -86,12 +86,12 @@ returns-2 c =
 
 returns-3 : tie.Need-returns-3
 unfolding row replaced also
-returns-3 c = rw (c .before .before .before .before .before .before .before .enum-told2 .given .1)
+returns-3 c = λ L. rw (c .before .before .before .before .before .before .before .enum-told2 .given .1)
     (acts-create-group _ _ _ (c .before .before .before .before .create .ensures))
 
 returns-4 : tie.Need-returns-4
 unfolding row replaced also
-returns-4 c =
+returns-4 c = λ L.
     let w = c .before .before .write-code3 .ensures in
     let c8 = c .before .before .before .before .before .before .before .before in
     rw (c8 .before .before .before .before .before .before .enum-told3 .given .1, w .0, w .1)
@@ -99,7 +99,7 @@ returns-4 c =
 
 returns-5 : tie.Need-returns-5
 unfolding row replaced also
-returns-5 c =
+returns-5 c = λ L.
     let w = c .before .before .write-code4 .ensures in
     let c8 = c .before .before .before .before .before .before .before .before in
     rw (c8 .before .enum-told4 .given .1, w .0, w .1)
@@ -107,14 +107,14 @@ returns-5 c =
 
 returns-6 : tie.Need-returns-6
 unfolding row replaced also
-returns-6 c =
+returns-6 c = λ L.
     let w = c .before .before .write-code5 .ensures in
     rw (c .before .before .before .before .before .before .before .before .enum-told5 .given .1, w .0, w .1)
     (acts-on Members _ RemoveFromGroup _ _ _ refl refl (c .before .before .before .before .before .before .remove-from-group .ensures))
 
 returns-7 : tie.Need-returns-7
 unfolding row
-returns-7 c =
+returns-7 c = λ L.
     let w = c .before .before .get-group-info .ensures in
     rw (c .before .before .before .before .before .before .enum-told6 .given .1, w .0, w .1) (acts-get-group-info _ _ _)
 
