@@ -17,10 +17,11 @@ use Rattle.rules.specs.Lists.{ask}
 use Rattle.rules.specs.Octets.{octets}
 use Rattle.rules.specs.Tables.{Rec, records, someFree, matches, addressed, clear, store, wipe, written}
 use Rattle.rules.specs.Layout.{size, partStart, partIs, deviceRecord}
-use Rattle.rules.specs.Frame.{Lent, lent, lentOf, tables, also, nothing, changed}
+use Rattle.rules.specs.Frame.{Lent, lentOf, tables, also, nothing, changed}
 use Rattle.rules.specs.Exists.{admitted}
 use Rattle.rules.specs.Sound.{deviceInRange, sound}
 use Rattle.rules.specs.Host.{hostAnswer, settled, admitting, admission, admit, namesDevice, releasing, release}
+use Rattle.rules.proofs.Frames.{replaced}
 use Rattle.rules.proofs.Records.{each-records, each-clear, records-bytes, clear-twice}
 use Rattle.rules.proofs.Kept.{whole-at, whole-length}
 
@@ -69,8 +70,8 @@ module _ (L : Lent) (d : DeviceAddress) (rights top : ℕ) where
     admit-refused z = rw (s, sym e, ne-eqb (numberOf o) 0 (λ h. z (k ∙ h)))
 
     pub admit-done : {r : Rec} {ds : List ℕ} → n ≡ 0 → r ≡ deviceRecord d rights top → ds ≡ written (size Devices) (store r) (L .devices)
-        → hostAnswer o (lent ds (L .binds) (L .groups) (L .members)) ≡ admit L d rights top
-    unfolding admit settled ask changed admitting also nothing written
+        → hostAnswer o (replaced Devices ds L) ≡ admit L d rights top
+    unfolding admit settled ask changed admitting also nothing written replaced
     admit-done z f h = rw (s, sym e, eq-eqb (numberOf o) 0 (sym k ∙ z), h, f)
 
 -- Release
@@ -110,6 +111,6 @@ module _ (L : Lent) (d : DeviceAddress) where
       → (ds ≡ written (size Devices) (releasing d Devices) (L .devices))
       × (bs ≡ written (size Binds) (releasing d Binds) (L .binds))
       × (ms ≡ written (size Members) (releasing d Members) (L .members))
-      → hostAnswer (Done 0) (lent ds bs (L .groups) ms) ≡ release L d
-  unfolding release settled ask changed releasing also nothing written
+      → hostAnswer (Done 0) (replaced Devices ds (replaced Binds bs (replaced Members ms L))) ≡ release L d
+  unfolding release settled ask changed releasing also nothing written replaced
   release-done s a w = rw (s, a, w .0, w .1, w .2)

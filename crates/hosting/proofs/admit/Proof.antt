@@ -2,6 +2,8 @@
 use native.Mathlib.Omega.{arith}
 use borrow.Author.Needs.{needs}
 use Rattle.words.specs.declared.Kind.the-variants.{Devices}
+use Rattle.rules.specs.Frame.{also}
+use Rattle.rules.proofs.Frames.{replaced}
 use Rattle.hosting.proofs.Hosting.{failed, passed, whole-table, admit-unsound, admit-refused, admit-done}
 use Rattle.hosting.proofs.admit.Statement.{statement}
 use Rattle.hosting.proofs.admit.Tie as tie
@@ -15,6 +17,7 @@ store-requires c κs =
     (omega arith, whole-table _ (passed (s .before .sound .ensures) (s .if1 .left)) Devices, search needs)
 
 returns-2 : tie.Need-returns-2
+unfolding replaced also
 returns-2 c =
     let w = c .before .before in
     let r = w .before .before .before in

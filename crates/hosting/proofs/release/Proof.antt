@@ -1,6 +1,8 @@
 -- `hosting::release` meets its contract: all goes with the device where no check fails, and nothing else.
 use borrow.Author.Needs.{needs}
 use Rattle.words.specs.declared.Kind.the-variants.{Devices, Binds, Members}
+use Rattle.rules.specs.Frame.{also}
+use Rattle.rules.proofs.Frames.{replaced}
 use Rattle.hosting.proofs.Hosting.{failed, passed, whole-table, release-unsound, release-unknown, release-done}
 use Rattle.hosting.proofs.release.Statement.{statement}
 use Rattle.hosting.proofs.release.Tie as tie
@@ -20,6 +22,7 @@ free-device-requires c κs =
     (whole Devices, whole Binds, whole Members)
 
 returns-3 : tie.Need-returns-3
+unfolding replaced also
 returns-3 c =
     let f = c .before .before .before .before .before .before in
     let a = f .before .before .before .before in
