@@ -1,4 +1,4 @@
-// What a message comes to (document 01, Outcomes): every check, in the paper's order, before anything is written. A message is read once.
+// What a message comes to (document 01, Outcomes): every check, in the paper's order, before anything is written.
 use words::Decoded;
 use words::Destination;
 use words::Fields;
@@ -6,7 +6,8 @@ use words::Outcome;
 use words::Reading;
 use words::Way;
 ghost use mathlib.Core.Path.{_≡_};
-ghost use Prim.Native.Nat.{max};
+ghost use mathlib.Core.List.{List};
+ghost use Prim.Native.Nat.{ℕ, max};
 ghost use Rattle.words.specs.declared.Kind.the-variants.{Devices, Groups};
 ghost use Rattle.words.specs.declared.Outcome.the-variants.{NoDestination};
 ghost use Rattle.words.specs.declared.Way.the-variants.{Refuse, Forward};
@@ -14,12 +15,6 @@ ghost use Rattle.rules.specs.Lists.{ask};
 ghost use Rattle.rules.specs.Frame.{lent, table};
 ghost use Rattle.rules.specs.Message.{reading};
 ghost use Rattle.rules.specs.Calls.{roomy, toMany, asking, wayTo, wayOn, way};
-
-// What is decided: the way of the message, and the fields that were read, every one of them 0 where it cannot be read.
-pub struct Decision {
-    pub way: Way,
-    pub fields: Fields,
-}
 
 // "max(1, ..)": a list holds one recipient even where the tables hold no record.
 fn larger(a: usize, b: usize) -> usize
@@ -98,20 +93,19 @@ fn way_on(devices: &[u8], groups: &[u8], f: Fields) -> Way
     way_to(devices, groups, to, f)
 }
 
-// "Order for a message: 17, 16, 10, 11, 12, 13, 15, then .."
-fn way_of(
+// Decides a message by what was read of it, with all that is lent: "Order for a message: 17, 16, 10, 11, 12, 13, 15, then .." It writes nothing.
+pub fn way_of(
     devices: &[u8],
     binds: &[u8],
     groups: &[u8],
     members: &[u8],
-    msg: &[u8],
     read: Reading,
     reply: &[u8],
     list: &[u8],
 ) -> Way
-    requires { ⌜ read ≡ reading (now msg) ⌝ }
-    ensures { λ r. ⌜ r ≡ way (lent (now (devices .entry)) (now (binds .entry)) (now (groups .entry)) (now (members .entry)))
-        (now (msg .entry)) (now (reply .entry)) (now (list .entry)) ⌝ }
+    ensures { λ r. ⌜ ((m : List ℕ) → read ≡ reading m
+        → r ≡ way (lent (now (devices .entry)) (now (binds .entry)) (now (groups .entry)) (now (members .entry))) m
+        (now (reply .entry)) (now (list .entry))) ⌝ }
 {
     if !roomy(binds, members, reply, list) {
         return Way::Refuse(Outcome::NoRoom);
@@ -124,27 +118,4 @@ fn way_of(
         return Way::Refuse(outcome);
     }
     way_on(devices, groups, read.fields)
-}
-
-// Decides a message. It looks at all that is lent, and writes nothing.
-pub fn decide(
-    devices: &[u8],
-    binds: &[u8],
-    groups: &[u8],
-    members: &[u8],
-    msg: &[u8],
-    reply: &[u8],
-    list: &[u8],
-) -> Decision
-    ensures way { λ r. ⌜ r .way ≡ way (lent (now (devices .entry)) (now (binds .entry)) (now (groups .entry)) (now (members .entry)))
-        (now (msg .entry)) (now (reply .entry)) (now (list .entry)) ⌝ }
-    ensures fields { λ r. ⌜ r .fields ≡ reading (now (msg .entry)) .fields ⌝ }
-{
-    let read = messages::read(msg);
-    let way = way_of(devices, binds, groups, members, msg, read, reply, list);
-    let fields = read.fields;
-    Decision {
-        way: way,
-        fields: fields,
-    }
 }

@@ -11,38 +11,36 @@ use Rattle.deciding.proofs.way_of.Tie as tie
 
 returns : tie.Need-returns
 unfolding way
-returns c = sym (ask-fail _ _ (sym (c .before .roomy .ensures) ∙ not-true _ (c .if1 .taken)))
+returns c = λ m e. sym (ask-fail _ _ (sym (c .before .roomy .ensures) ∙ not-true _ (c .if1 .taken)))
 
 returns-2 : tie.Need-returns-2
 unfolding way
-returns-2 c =
+returns-2 c = λ m e.
     let r = c .before .before in
     sym (ask-pass _ _ (sym (r .before .roomy .ensures) ∙ not-false _ (r .if1 .left))
     ∙ ask-fail _ _ (sym (c .before .sound .ensures) ∙ not-true _ (c .if2 .taken)))
 
 returns-3 : tie.Need-returns-3
 unfolding way
-returns-3 c =
+returns-3 c = λ m e.
     let s = c .before .before in
     let r = s .before .before in
-    let start = c .before .before .before .before .before .before .before .before .before .before .before .before .before in
     sym (ask-pass _ _ (sym (r .before .roomy .ensures) ∙ not-false _ (r .if1 .left))
     ∙ ask-pass _ _ (sym (s .before .sound .ensures) ∙ not-false _ (s .if2 .left))
-    ∙ reads-refused _ (start .pre) (c .before .number .ensures) Refuse _ (c .if3 .taken))
+    ∙ reads-refused _ e (c .before .number .ensures) Refuse _ (c .if3 .taken))
 
 returns-4 : tie.Need-returns-4
 unfolding way
-returns-4 c =
+returns-4 c = λ m e.
     let n = c .before .before in
     let s = n .before in
     let r = s .before .before in
-    let start = c .before .before .before .before .before .before .before .before .before .before .before .before .before .before in
     let z = c .before .if3 .left in
     c .way-on .ensures
     ∙ sym (ask-pass _ _ (sym (r .before .roomy .ensures) ∙ not-false _ (r .if1 .left))
     ∙ ask-pass _ _ (sym (s .before .sound .ensures) ∙ not-false _ (s .if2 .left))
-    ∙ reads-on _ (start .pre) (n .number .ensures) Refuse _ z
-    ∙ rw (← read-fields _ (start .pre) (n .number .ensures) z))
+    ∙ reads-on _ e (n .number .ensures) Refuse _ z
+    ∙ rw (← read-fields _ e (n .number .ensures) z))
 
 pub way-of-spec : {M : Type 1} → statement M
 way-of-spec =
