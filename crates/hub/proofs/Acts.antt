@@ -9,6 +9,7 @@ use lib.ListN.{length, drop, length-drop}
 use lib.Seq.{length-take-le}
 use Rattle.words.specs.Names.{headerLength, longest}
 use Rattle.words.specs.declared.Fields.{Fields}
+use Rattle.words.specs.declared.Reading.{Reading}
 use Rattle.words.specs.declared.Command.{Command}
 use Rattle.words.specs.declared.Destination.{Destination}
 use Rattle.words.specs.declared.Kind.the-variants.{Binds, Members}
@@ -24,23 +25,27 @@ use Rattle.rules.specs.Commands.{judge, done, replyPayload}
 use Rattle.rules.specs.Calls.{roomy, way, Answer, answer, answered, handled, forwarded, follow, message}
 use Rattle.rules.proofs.Lists.{split, ask-pass}
 use Rattle.rules.proofs.Ways.{Acting}
-use Rattle.messages.proofs.Replies.{reply-behind, within-room}
-use Rattle.commands.specs.Perform.{Performed, performed, performing}
+use Rattle.messages.proofs.Replies.{fields-ranged, rest-is, reply-behind, within-room}
+use Rattle.commands.specs.Perform.{beside, Performed, performed, performing}
 use Rattle.units.specs.Listing.{Listing}
-use Rattle.hub.specs.Acting.{nothingLent}
+use Rattle.hub.specs.Acting.{Servable, nothingLent}
 
 -- What is known behind a way that acts
 
 module _ {L : Lent} {m r l : List ℕ} (a : Acting L m r l) where
   -- the fields that were read are the message's
-  pub fields-read : {f : Fields} → f ≡ reading m .fields → f ≡ fields m
+  pub fields-read : {r : Reading} → r ≡ reading m → r .fields ≡ fields m
   unfolding reading reads
-  fields-read e = rw (ask-pass _ _ (a .length), ask-pass _ _ (a .data-length), ask-pass _ _ (a .type)) at e
+  fields-read e = rw (ask-pass _ _ (a .length), ask-pass _ _ (a .data-length), ask-pass _ _ (a .type)) at (ap (λ (x : Reading). x .fields) e)
 
-  -- the reply has room for the longest
-  pub reply-room : longest ≤ length r
+  -- its command can be served
+  pub servable : {x : Reading} → x ≡ reading m → Servable (L .devices) (L .binds) (L .groups) (L .members) (x .fields) r
   unfolding roomy
-  reply-room = leb-true longest (length r) (split (a .roomy) .0)
+  servable e = record {
+    tables = record { lent = L; sound = a .sound };
+    request = rw (fields-read e) (fields-ranged m);
+    room = leb-true longest (length r) (split (a .roomy) .0);
+  }
 
 -- Serving
 
@@ -99,10 +104,13 @@ module _ (L : Lent) (m r l : List ℕ) where
   unfolding message follow
   refuses w = rw w
 
-  pub handled-whole : {k : Command} {f : Fields} {o : Outcome} {L' : Lent} {r' : List ℕ} → way L m r l ≡ Serve k → f ≡ fields m
-      → answer o L' r' [] ≡ handled L k f (drop headerLength m) r [] → answer o L' r' l ≡ message L m r l
+  -- whatever else is lent stays
+  pub handled-whole : {k : Command} {f : Fields} {o : Outcome} {bs gs ms r' : List ℕ} → way L m r l ≡ Serve k → f ≡ fields m
+      → ((X : Lent) → answer o (beside X (L .devices) bs gs ms) r' []
+      ≡ handled (beside X (L .devices) (L .binds) (L .groups) (L .members)) k f (midOf headerLength (length m - headerLength) m) r [])
+      → answer o (beside L (L .devices) bs gs ms) r' l ≡ message L m r l
   unfolding message follow handled answered payload
-  handled-whole {k} {f} {o} {L'} {r'} w e a = rw (w, ← e) (ap (λ (x : Answer). answer (x .outcome) (x .tables) (x .reply) l) a)
+  handled-whole w e a = rw (w, ← e, ← rest-is headerLength m) (ap (λ (x : Answer). answer (x .outcome) (x .tables) (x .reply) l) (a L))
 
   -- what is listed does not depend on what else is lent
   pub forwarded-whole : {to : Destination} {f : Fields} {o : Outcome} {l' : List ℕ} → way L m r l ≡ Forward to → f ≡ fields m

@@ -1,21 +1,19 @@
 -- What the acting parts of a message are handed.
-use mathlib.Core.Path.{_≡_}
-use mathlib.Core.Bool.{true}
 use mathlib.Core.List.{List, []}
 use Prim.Native.Nat.{ℕ, _≤_}
 use lib.ListN.{length}
 use Rattle.words.specs.Names.{longest}
 use Rattle.words.specs.declared.Fields.{Fields}
-use Rattle.rules.specs.Frame.{Lent, lent}
-use Rattle.rules.specs.Sound.{sound}
+use Rattle.rules.specs.Frame.{Lent, made}
 use Rattle.messages.specs.Ranges.{Ranged}
+use Rattle.commands.specs.Perform.{Workable}
 
 -- a command that can be served: sound tables, fields that a header has room for, room for the longest reply
-pub record Servable (L : Lent) (f : Fields) (reply : List ℕ) : Type 0 where
-  pub sound : sound L ≡ true
+pub record Servable (ds bs gs ms : List ℕ) (f : Fields) (reply : List ℕ) : Type 0 where
+  pub tables : Workable ds bs gs ms
   pub request : Ranged f
   pub room : longest ≤ length reply
 
 -- forwarding is lent no table to change
 abbrev pub nothingLent : Lent
-nothingLent = lent [] [] [] []
+nothingLent = made (λ k. [])

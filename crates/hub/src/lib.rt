@@ -1,5 +1,5 @@
-// The public calls of the bind and group part (document 01), and here the one for a message: decided once, by all that is lent; then its command is
-// served, or its recipients are listed.
+// The public calls of the bind and group part (document 01), and here the one for a message: read once, decided by all that is lent; then its
+// command is served, or its recipients are listed.
 pub use hosting::admit;
 pub use hosting::release;
 pub use messages::copy;
@@ -12,9 +12,10 @@ use words::Way;
 ghost use mathlib.Core.Path.{_≡_};
 ghost use mathlib.Core.List.{[]};
 ghost use Rattle.words.specs.declared.Kind.the-variants.{Binds, Members};
-ghost use Rattle.rules.specs.Frame.{lent, table};
+ghost use Rattle.rules.specs.Frame.{Lent, lent, table};
 ghost use Rattle.rules.specs.Recipients.{recipients};
 ghost use Rattle.rules.specs.Calls.{answer, handled, forwarded, message};
+ghost use Rattle.commands.specs.Perform.{beside};
 ghost use Rattle.delivery.specs.Delivering.{Deliverable};
 ghost use Rattle.hub.specs.Acting.{Servable, nothingLent};
 
@@ -29,10 +30,11 @@ fn serve(
     payload: &[u8],
     reply: &mut [u8],
 ) -> Outcome
-    requires { ⌜ Servable (lent (now devices) (now binds) (now groups) (now members)) f (now reply) ⌝ }
-    ensures { λ r. ⌜ answer r (lent (now (devices .entry)) (now (binds .exit)) (now (groups .exit)) (now (members .exit))) (now (reply .exit)) []
-        ≡ handled (lent (now (devices .entry)) (now (binds .entry)) (now (groups .entry)) (now (members .entry))) command f
-        (now (payload .entry)) (now (reply .entry)) [] ⌝ }
+    requires { ⌜ Servable (now devices) (now binds) (now groups) (now members) f (now reply) ⌝ }
+    ensures { λ r. ⌜ ((L : Lent)
+        → answer r (beside L (now (devices .entry)) (now (binds .exit)) (now (groups .exit)) (now (members .exit))) (now (reply .exit)) []
+        ≡ handled (beside L (now (devices .entry)) (now (binds .entry)) (now (groups .entry)) (now (members .entry))) command f
+        (now (payload .entry)) (now (reply .entry)) []) ⌝ }
 {
     let n = commands::perform(
         devices,
@@ -76,9 +78,9 @@ pub fn message(
         ≡ message (lent (now (devices .entry)) (now (binds .entry)) (now (groups .entry)) (now (members .entry)))
         (now (msg .entry)) (now (reply .entry)) (now (list .entry)) ⌝ }
 {
-    let decision = deciding::decide(devices, binds, groups, members, msg, reply, list);
-    let way = decision.way;
-    let f = decision.fields;
+    let read = messages::read(msg);
+    let way = deciding::way_of(devices, binds, groups, members, read, reply, list);
+    let f = read.fields;
     match way {
         Way::Refuse(outcome) => outcome,
         Way::Serve(command) => serve(

@@ -1,69 +1,74 @@
 -- `hub::message` meets its contract: each way's part gives the message's answer.
 use mathlib.Core.Path.{sym, _∙_}
 use native.Mathlib.Omega.{arith}
-use denote.Ref.{now}
-use Rattle.words.specs.Names.{headerLength}
 use Rattle.rules.proofs.Ways.{serve-known, forward-known}
 use Rattle.messages.proofs.Reading.{long-enough}
-use Rattle.messages.proofs.Replies.{fields-ranged, rest-is}
 use Rattle.delivery.proofs.Delivering.{deliverable}
-use Rattle.hub.proofs.Acts.{fields-read, reply-room, refuses, handled-whole, forwarded-whole}
+use Rattle.hub.proofs.Acts.{fields-read, servable, refuses, handled-whole, forwarded-whole}
 use borrow.Author.Needs.{needs}
 use Rattle.hub.proofs.message.Statement.{statement}
 use Rattle.hub.proofs.message.Tie as tie
 
+-- the message was read before its way was decided
+abbrev to-read : tie.After-way-of → tie.After-read
+to-read w = w .before .before .before .before .before .before .before
+
 sub-serve : tie.Need-sub-serve
-sub-serve c = omega (
-  arith,
-  long-enough _ (serve-known (sym (c .before .before .before .before .before .before .before .before .decide .ensures .0)
-      ∙ c .before .before .before .before .before .way2 .given .1) .0 .length),
-)
+sub-serve c =
+    let s = c .before .before .before .before .before in
+    let w = s .before .before .before in
+    omega (arith, long-enough _ (serve-known (sym (w .way-of .ensures _ (to-read w .read .ensures)) ∙ s .way2 .given .1) .0 .length))
 
 part-serve-start : tie.Need-part-serve-start
-part-serve-start c = omega (
-  arith,
-  long-enough _ (serve-known
-      (sym (c .before .before .before .before .before .before .before .before .decide .ensures .0)
-      ∙ c .before .before .before .before .before .way2 .given .1) .0 .length),
-)
+part-serve-start c =
+    let s = c .before .before .before .before .before in
+    let w = s .before .before .before in
+    omega (arith, long-enough _ (serve-known (sym (w .way-of .ensures _ (to-read w .read .ensures)) ∙ s .way2 .given .1) .0 .length))
 
 serve-requires : tie.Need-serve-requires
 serve-requires c κs =
-    let c8 = c .before .before .before .before .before .before .before .before in
-    let k = serve-known (sym (c8 .before .before .decide .ensures .0) ∙ c .before .before .before .before .before .before .before .way2 .given .1) in
-    record { sound = k .0 .sound; request = rw (fields-read (k .0) (c8 .before .before .decide .ensures .1)) (fields-ranged _); room = reply-room (k .0) }
+    let s = c .before .before .before .before .before .before .before in
+    let w = s .before .before .before in
+    let read = to-read w .read .ensures in
+    servable (serve-known (sym (w .way-of .ensures _ read) ∙ s .way2 .given .1) .0) read
 
 forward-requires : tie.Need-forward-requires
 forward-requires c κs =
-    let k = forward-known (sym (c .before .before .before .before .before .before .before .decide .ensures .0)
-    ∙ c .before .before .before .before .way3 .given .1) in
+    let s = c .before .before .before .before in
+    let w = s .before .before .before in
+    let k = forward-known (sym (w .way-of .ensures _ (to-read w .read .ensures)) ∙ s .way3 .given .1) in
     deliverable _ _ _ (k .0 .roomy) (k .0 .sound)
 
 returns : tie.Need-returns
-returns c = refuses _ _ _ _ (sym (c .before .before .before .before .decide .ensures .0) ∙ c .before .way .given .1)
+returns c =
+    let s = c .before in
+    let w = s .before .before .before in
+    refuses _ _ _ _ (sym (w .way-of .ensures _ (to-read w .read .ensures)) ∙ s .way .given .1)
 
 returns-2 : tie.Need-returns-2
 returns-2 c =
-    let c8 = c .before .before .before .before .before .before .before .before in
-    let c16 = c8 .before .before .before .before .before .before .before .before in
-    let c24 = c16 .before .before .before .before .before .before .before .before in
-    let c32 = c24 .before .before .before .before .before .before .before .before in
-    let w = sym (c16 .before .before .before .decide .ensures .0) ∙ c16 .way2 .given .1 in
-    let start = c32 .before in
-    handled-whole _ _ _ _ w (fields-read (serve-known w .0) (c16 .before .before .before .decide .ensures .1))
-    (rw (rest-is headerLength (now (start .args .msg))) at (c8 .serve .ensures))
+    let a = c .before .before .before .before .before .before .before .before in
+    let s = a .before .before .before .before .before .before .before .before in
+    let w = s .before .before .before in
+    let read = to-read w .read .ensures in
+    let way = sym (w .way-of .ensures _ read) ∙ s .way2 .given .1 in
+    handled-whole _ _ _ _ way (fields-read (serve-known way .0) read) (a .serve .ensures)
 
 returns-3 : tie.Need-returns-3
 returns-3 c =
-    let c8 = c .before .before .before .before .before .before .before .before in
-    let w = sym (c8 .before .before .decide .ensures .0) ∙ c .before .before .before .before .before .before .before .way3 .given .1 in
-    forwarded-whole _ _ _ _ w (fields-read (forward-known w .0) (c8 .before .before .decide .ensures .1)) (c .before .before .forward .ensures)
+    let a = c .before .before in
+    let s = a .before .before .before .before .before in
+    let w = s .before .before .before in
+    let read = to-read w .read .ensures in
+    let way = sym (w .way-of .ensures _ read) ∙ s .way3 .given .1 in
+    forwarded-whole _ _ _ _ way (fields-read (forward-known way .0) read) (a .forward .ensures)
 
 pub message-spec : {M : Type 1} → statement M
 message-spec =
     tie.close
     (tie.spec
-    (λ c κs. search needs) (λ c. search needs) (λ c. search needs) sub-serve part-serve-start (λ c. search needs) serve-requires (λ c. search needs)
+    (λ c κs. search needs) (λ c κs. search needs) (λ c. search needs) (λ c. search needs) sub-serve part-serve-start (λ c. search needs) serve-requires
+    (λ c. search needs)
     forward-requires (λ c. search needs) (λ c. search needs) (λ c. search needs) (λ c. search needs) (λ c. search needs) (λ c. search needs) returns
     (λ c. search needs) (λ c. search needs) (λ c. search needs) (λ c. search needs) (λ c. search needs) (λ c. search needs) returns-2
     (λ c. search needs) (λ c. search needs) (λ c. search needs) (λ c. search needs) (λ c. search needs) (λ c. search needs) returns-3)

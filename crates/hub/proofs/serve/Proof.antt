@@ -14,7 +14,7 @@ short : (p : tie.After-perform) → headerLength + p .perform .result ≤ longes
 short p =
     let start = p .before .before .before .before .before .before .before .before .before .before .before in
     performed-short _ (start .args .command) (start .args .f) (now (start .args .payload)) (now (start .args .reply)) (start .pre .room)
-    (p .perform .kept .1 .1 .1 .1 .1 .1 .1 .0) (p .perform .ensures)
+    (p .perform .kept .1 .1 .1 .1 .1 .1 .1 .0) (p .perform .ensures (start .pre .tables .lent))
 
 write-header-requires : tie.Need-write-header-requires
 write-header-requires c κs =
@@ -31,14 +31,14 @@ add-t17 : tie.Need-add-t17
 add-t17 c = omega (arith, short (c .before .before .before .before .before .before .before .before .before .before .before .before))
 
 returns : tie.Need-returns
-returns c =
+returns c = λ L.
     let c8 = c .before .before .before .before .before .before .before .before in
     let c16 = c8 .before .before .before .before .before .before .before .before in
     let start = c16 .before .before .before .before .before .before .before in
     let p = c8 .before .before .before .before in
     rw (c .before .before .write-header .ensures)
     (serves _ (start .args .command) (start .args .f) (now (start .args .payload)) (now (start .args .reply)) (start .pre .room)
-    (p .perform .kept .1 .1 .1 .1 .1 .1 .1 .0) (p .perform .ensures))
+    (p .perform .kept .1 .1 .1 .1 .1 .1 .1 .0) (p .perform .ensures L))
 
 pub serve-spec : {M : Type 1} → statement M
 serve-spec =
