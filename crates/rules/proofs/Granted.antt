@@ -17,7 +17,7 @@ use Rattle.words.specs.declared.Kind.{Kind}
 use Rattle.words.specs.declared.Kind.the-variants.{Devices, Binds, Groups, Members}
 use Rattle.rules.specs.Lists.{any, ask}
 use Rattle.rules.specs.Octets.{octet, octets, octetString}
-use Rattle.rules.specs.Tables.{Rec, used, someFree, matches, addressed, Change, none, store, wipe, change}
+use Rattle.rules.specs.Tables.{Rec, used, someFree, matches, addressed, Change, none, store, wipe}
 use Rattle.rules.specs.Layout.{size, key, longestName, memberGroup, boundGroup, groupRecord, toThisGroup, inGroup}
 use Rattle.rules.specs.Frame.{Lent, Tables, tables, also, Effect, nothing, only}
 use Rattle.rules.specs.Exists.{groupExists}

@@ -9,8 +9,7 @@ use Rattle.words.specs.Outcomes.{numberOf}
 use Rattle.words.specs.declared.DeviceAddress.{DeviceAddress}
 use Rattle.words.specs.declared.Outcome.{Outcome}
 use Rattle.words.specs.declared.Outcome.the-variants.{Done, Unsound, OutOfRange, AlreadyAdmitted, NoFreeRecord, NotAdmitted}
-use Rattle.words.specs.declared.Kind.{Kind}
-use Rattle.words.specs.declared.Kind.the-variants.{Devices, Binds, Groups, Members}
+use Rattle.words.specs.declared.Kind.the-variants.{Devices, Binds, Members}
 use Rattle.rules.specs.Lists.{ask, _&_}
 use Rattle.rules.specs.Octets.{octets}
 use Rattle.rules.specs.Tables.{Rec, used, someFree, addressed, none, wipe, change}

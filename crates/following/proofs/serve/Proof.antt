@@ -1,13 +1,13 @@
--- `hub::serve` meets its contract: the payload behind the header, then the header.
+-- `following::serve` meets its contract: the payload behind the header, then the header.
 use native.Mathlib.Omega.{arith}
 use borrow.Rule.Slice.PartMut.{same-len-mid}
 use denote.Ref.{now}
 use Prim.Native.Nat.{_+_, _≤_}
 use Rattle.words.specs.Names.{headerLength, longest}
-use Rattle.hub.proofs.Acts.{performed-short, serves}
+use Rattle.following.proofs.Acts.{performed-short, serves}
 use borrow.Author.Needs.{needs}
-use Rattle.hub.proofs.serve.Statement.{statement}
-use Rattle.hub.proofs.serve.Tie as tie
+use Rattle.following.proofs.serve.Statement.{statement}
+use Rattle.following.proofs.serve.Tie as tie
 
 -- what was performed fits behind the header
 short : (p : tie.After-perform) → headerLength + p .perform .result ≤ longest

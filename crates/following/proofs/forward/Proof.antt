@@ -1,8 +1,8 @@
--- `hub::forward` meets its contract: the count tells outcome 2 from outcome 1.
-use Rattle.hub.proofs.Acts.{nobody, somebody}
+-- `following::forward` meets its contract: the count tells outcome 2 from outcome 1.
+use Rattle.following.proofs.Acts.{nobody, somebody}
 use borrow.Author.Needs.{needs}
-use Rattle.hub.proofs.forward.Statement.{statement}
-use Rattle.hub.proofs.forward.Tie as tie
+use Rattle.following.proofs.forward.Statement.{statement}
+use Rattle.following.proofs.forward.Tie as tie
 
 returns : tie.Need-returns
 returns c = nobody _ (c .before .before .before .deliver .ensures) (c .if1 .taken)

@@ -1,0 +1,73 @@
+-- What the acting parts leave: a command that is handled, a list of recipients.
+use mathlib.Core.Path.{_≡_, ap}
+use mathlib.Core.List.{List, [], _∷_, flatMap}
+use Prim.Native.Nat.{ℕ, _+_, _-_, _≤_}
+use native.Mathlib.Omega.{arith}
+use borrow.Rule.Slice.PartMut.{midOf, putMid}
+use lib.ListN.{length, drop, length-drop}
+use lib.Seq.{length-take-le}
+use Rattle.words.specs.Names.{headerLength, longest}
+use Rattle.words.specs.declared.Fields.{Fields}
+use Rattle.words.specs.declared.Command.{Command}
+use Rattle.words.specs.declared.Outcome.the-variants.{Done, Forwarded, Nobody}
+use Rattle.rules.specs.Octets.{over}
+use Rattle.rules.specs.Units.{unitOctets}
+use Rattle.rules.specs.Frame.{Lent, tables, changed}
+use Rattle.rules.specs.Message.{payload, header, answering}
+use Rattle.rules.specs.Recipients.{recipients}
+use Rattle.rules.specs.Commands.{judge, done, replyPayload}
+use Rattle.rules.specs.Calls.{answer, answered, handled, forwarded}
+use Rattle.messages.proofs.Replies.{reply-behind, within-room}
+use Rattle.commands.specs.Perform.{Performed, performed, performing}
+use Rattle.units.specs.Listing.{Listing}
+use Rattle.following.specs.Following.{nothingLent}
+
+-- Serving
+
+-- the part of the reply that a handler is lent: all that the longest reply has behind its header
+abbrev behind : List ℕ → List ℕ
+behind old = midOf headerLength (longest - headerLength) old
+
+behind-length : (old : List ℕ) → longest ≤ length old → length (behind old) ≡ longest - headerLength
+behind-length old h = length-take-le (longest - headerLength) (drop headerLength old) (rw length-drop (omega arith))
+
+module _ (L : Lent) (k : Command) (f : Fields) (p old : List ℕ) {L' : Lent} {part : List ℕ} {n : ℕ} (h : longest ≤ length old)
+    (s : length part ≡ length (behind old)) (d : performed n L' part ≡ performing L k p (judge (tables L) (f .source) k p) (behind old)) where
+  abbrev payloadOf : List ℕ
+  payloadOf = replyPayload (tables L) k p (judge (tables L) (f .source) k p)
+
+  written-length : n ≡ length payloadOf
+  unfolding performing
+  written-length = ap (λ (y : Performed). y .length) d
+
+  written-over : part ≡ over payloadOf (behind old)
+  unfolding performing
+  written-over = ap (λ (y : Performed). y .out) d
+
+  -- what was performed had room there
+  pub performed-short : headerLength + n ≤ longest
+  performed-short = omega (arith, within-room payloadOf (behind old) written-over s, written-length, behind-length old h)
+
+  -- the payload behind, the header before it
+  pub serves : answer (Done (headerLength + n)) L' (over (header (answering f n)) (putMid headerLength (longest - headerLength) old part)) []
+      ≡ handled L k f p old []
+  unfolding handled answered performing
+  serves =
+      let eL : L' ≡ changed (done (tables L) k p (judge (tables L) (f .source) k p)) L = ap (λ (y : Performed). y .tables) d in
+      rw (
+        written-length,
+        eL,
+        reply-behind (longest - headerLength) f payloadOf old part (omega arith) (omega (arith, performed-short, written-length)) written-over,
+      )
+
+-- Forwarding
+
+pub nobody : {n : ℕ} {l l' : List ℕ} (us : List ℕ) → Listing l l' n us → n ≡ 0 → answer Nobody nothingLent [] l' ≡ forwarded us nothingLent [] l
+unfolding forwarded over unitOctets flatMap
+nobody [] x z = rw (x .octets)
+nobody (u ∷ us) x z = absurd (omega (arith, x .count))
+
+pub somebody : {n : ℕ} {l l' : List ℕ} (us : List ℕ) → Listing l l' n us → (n ≡ 0 → ⊥) → answer (Forwarded n) nothingLent [] l' ≡ forwarded us nothingLent [] l
+unfolding forwarded
+somebody [] x z = absurd (z (x .count))
+somebody (u ∷ us) x z = rw (x .count, x .octets)

@@ -1,0 +1,58 @@
+// What follows once a message is decided (document 01, Outcomes): its command is served, or its recipients are listed.
+use words::Command;
+use words::Destination;
+use words::Fields;
+use words::Outcome;
+ghost use mathlib.Core.Path.{_≡_};
+ghost use mathlib.Core.List.{[]};
+ghost use Rattle.words.specs.declared.Kind.the-variants.{Binds, Members};
+ghost use Rattle.rules.specs.Frame.{Lent, table};
+ghost use Rattle.rules.specs.Recipients.{recipients};
+ghost use Rattle.rules.specs.Calls.{answer, handled, forwarded};
+ghost use Rattle.commands.specs.Perform.{beside};
+ghost use Rattle.delivery.specs.Delivering.{Deliverable};
+ghost use Rattle.following.specs.Following.{Servable, nothingLent};
+
+// Serves a command. Its handler gets the payload where it stands in the message, and the part of the lent reply behind the header.
+pub fn serve(
+    devices: &[u8],
+    binds: &mut [u8],
+    groups: &mut [u8],
+    members: &mut [u8],
+    command: Command,
+    f: Fields,
+    payload: &[u8],
+    reply: &mut [u8],
+) -> Outcome
+    requires { ⌜ Servable (now devices) (now binds) (now groups) (now members) f (now reply) ⌝ }
+    ensures { λ r. ⌜ ((L : Lent)
+        → answer r (beside L (now (devices .entry)) (now (binds .exit)) (now (groups .exit)) (now (members .exit))) (now (reply .exit)) []
+        ≡ handled (beside L (now (devices .entry)) (now (binds .entry)) (now (groups .entry)) (now (members .entry))) command f
+        (now (payload .entry)) (now (reply .entry)) []) ⌝ }
+{
+    let n = commands::perform(
+        devices,
+        binds,
+        groups,
+        members,
+        f.source,
+        command,
+        payload,
+        &mut reply[Fields::HEADER..Fields::LONGEST],
+    );
+    messages::write_header(reply, f, n);
+    Outcome::Done(Fields::HEADER + n)
+}
+
+// Lists the recipients. Where there is none, nothing is written.
+pub fn forward(binds: &[u8], members: &[u8], to: Destination, f: Fields, list: &mut [u8]) -> Outcome
+    requires { ⌜ Deliverable (now binds) (now members) (now list) ⌝ }
+    ensures { λ r. ⌜ answer r nothingLent [] (now (list .exit))
+        ≡ forwarded (recipients (table Binds (now (binds .entry))) (table Members (now (members .entry))) to f) nothingLent [] (now (list .entry)) ⌝ }
+{
+    let count = delivery::deliver(binds, members, to, f, list);
+    if count == 0 {
+        return Outcome::Nobody;
+    }
+    Outcome::Forwarded(count)
+}
