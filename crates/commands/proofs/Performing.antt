@@ -98,7 +98,7 @@ acts-on i L k p out x {c} {t} e g d =
 module _ (L : Lent) (p out : List ℕ) where
   pub acts-create-group : {n : ℕ} {gs out' : List ℕ} → made n gs out' ≡ making (L .groups) p out
       → performed n (replaced Groups gs L) out' ≡ performing L CreateGroup p (row CreateGroup .verdict (tables L) p) out
-  unfolding performing replyPayload row making
+  unfolding performing replyPayload making
   acts-create-group {n} {gs} {out'} d =
       let v : Code = row CreateGroup .verdict (tables L) p in
       rw (
@@ -128,7 +128,7 @@ module _ (L : Lent) (p out : List ℕ) where
 
   pub acts-delete-group : {c : Code} {bs gs ms : List ℕ} → deleted c bs gs ms ≡ deleting (groupNamed p) (L .binds) (L .groups) (L .members)
       → performed 1 (three bs gs ms) (over (c .0 ∷ []) out) ≡ performing L DeleteGroup p (row DeleteGroup .verdict (tables L) p) out
-  unfolding performing replyPayload row deleting
+  unfolding performing replyPayload deleting
   acts-delete-group {c} {bs} {gs} {ms} d =
       let v : Code = row DeleteGroup .verdict (tables L) p in
       rw (
@@ -144,7 +144,7 @@ module _ (L : Lent) (p out : List ℕ) where
   pub acts-get-group-info : performed (length (informing (tables L Groups) (tables L Members) (groupNamed p))) L
       (over (informing (tables L Groups) (tables L Members) (groupNamed p)) out)
       ≡ performing L GetGroupInfo p (row GetGroupInfo .verdict (tables L) p) out
-  unfolding performing replyPayload row informing onOk
+  unfolding performing replyPayload informing onOk
   acts-get-group-info =
       let v : Code = row GetGroupInfo .verdict (tables L) p in
       rw (changed-done L GetGroupInfo p v, changed-nothing L, same v)

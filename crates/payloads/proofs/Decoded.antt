@@ -5,6 +5,10 @@ use Prim.Native.Nat.{ℕ, zero, suc, _+_, _*_, _%_, _≤_, _<_}
 use native.Mathlib.Omega.{arith}
 use lib.ListN.{length, getD, set, take, drop, drop-of-length-le}
 use lib.Seq.{drop-cons, take-append-seam}
+use mathlib.Core.Bool.{Bool, cond}
+use Rattle.words.specs.declared.Command.{Command}
+use Rattle.words.specs.declared.Decoded.{Decoded}
+use Rattle.words.specs.declared.Decoded.the-variants.{Is}
 use Rattle.rules.specs.Octets.{octet, word, octets, ignoreTop, over}
 use Rattle.rules.specs.Payloads.{bindOf, memberOf, groupNamed}
 use Rattle.words.specs.Names.{group}
@@ -46,6 +50,10 @@ first-ignored [] old h = absurd (omega arith)
 first-ignored (o ∷ p) old h = ap (λ (s : List ℕ). o % 128 ∷ s) (take-append-seam p (drop (suc (length p)) old))
 
 -- the first octet of nothing is 0
-pub first-of-none : (s : List ℕ) → length s ≡ 0 → 0 ≡ octet 0 s
+pub first-of-none : (s : List ℕ) → length s ≡ 0 → 1 ≡ 1 + octet 0 s
 first-of-none [] h = refl
 first-of-none (o ∷ s) h = absurd (omega arith)
+
+-- a command, or else what the members behind it say
+pub then-rest : (b : Bool) (k : Command) (r s t : Decoded) → r ≡ cond b (Is k) s → s ≡ t → r ≡ cond b (Is k) t
+then-rest b k r s t p q = cc

@@ -5,48 +5,70 @@ use words::Command;
 use words::Decoded;
 use words::Fields;
 ghost use mathlib.Core.Path.{_≡_};
-ghost use Rattle.rules.specs.Octets.{octet};
+ghost use mathlib.Core.Bool.{cond};
+ghost use Rattle.words.specs.declared.Decoded.the-variants.{Is};
+ghost use Rattle.words.specs.declared.Command.the-variants.{CreateGroup};
 ghost use Rattle.rules.specs.Payloads.{bindCommand, groupCommand, command};
 ghost use Rattle.rules.specs.Commands.{row};
 
-// Bind Management, by member.
+// The command where the member is its own, or else what the members behind it say.
+fn command_or(named: bool, command: Command, rest: Decoded) -> Decoded
+    ensures { λ r. ⌜ r ≡ cond named (Is command) rest ⌝ }
+{
+    if named { Decoded::Is(command) } else { rest }
+}
+
+// Bind Management, by member, from the last to the first: `rest` is what the members behind one say.
 fn bind_command(member: u8) -> Decoded
     ensures { λ r. ⌜ r ≡ bindCommand member ⌝ }
 {
-    if member == Command::ADD_BIND {
-        Decoded::Is(Command::AddBind)
-    } else if member == Command::REMOVE_BIND {
-        Decoded::Is(Command::RemoveBinds(BindPart::Whole))
-    } else if member == Command::REMOVE_BY_SOURCE {
-        Decoded::Is(Command::RemoveBinds(BindPart::Source))
-    } else if member == Command::REMOVE_BY_SOURCE_UNIT {
-        Decoded::Is(Command::RemoveBinds(BindPart::SourceUnit))
-    } else if member == Command::REMOVE_BY_DESTINATION {
-        Decoded::Is(Command::RemoveBinds(BindPart::Destination))
-    } else if member == Command::REMOVE_BY_DESTINATION_UNIT {
-        Decoded::Is(Command::RemoveBinds(BindPart::DestinationUnit))
-    } else {
-        Decoded::NotServed
-    }
+    let rest = Decoded::NotServed;
+    let rest = command_or(
+        member == Command::REMOVE_BY_DESTINATION_UNIT,
+        Command::RemoveBinds(BindPart::DestinationUnit),
+        rest,
+    );
+    let rest = command_or(
+        member == Command::REMOVE_BY_DESTINATION,
+        Command::RemoveBinds(BindPart::Destination),
+        rest,
+    );
+    let rest = command_or(
+        member == Command::REMOVE_BY_SOURCE_UNIT,
+        Command::RemoveBinds(BindPart::SourceUnit),
+        rest,
+    );
+    let rest = command_or(
+        member == Command::REMOVE_BY_SOURCE,
+        Command::RemoveBinds(BindPart::Source),
+        rest,
+    );
+    let rest = command_or(
+        member == Command::REMOVE_BIND,
+        Command::RemoveBinds(BindPart::Whole),
+        rest,
+    );
+    command_or(member == Command::ADD_BIND, Command::AddBind, rest)
 }
 
-// Group Management, by member.
+// Group Management, by member, in the same way.
 fn group_command(member: u8) -> Decoded
     ensures { λ r. ⌜ r ≡ groupCommand member ⌝ }
 {
-    if member == Command::CREATE_GROUP {
-        Decoded::Is(Command::CreateGroup)
-    } else if member == Command::DELETE_GROUP {
-        Decoded::Is(Command::DeleteGroup)
-    } else if member == Command::ADD_TO_GROUP {
-        Decoded::Is(Command::AddToGroup)
-    } else if member == Command::REMOVE_FROM_GROUP {
-        Decoded::Is(Command::RemoveFromGroup)
-    } else if member == Command::GET_GROUP_INFO {
-        Decoded::Is(Command::GetGroupInfo)
-    } else {
-        Decoded::NotServed
-    }
+    let rest = Decoded::NotServed;
+    let rest = command_or(
+        member == Command::GET_GROUP_INFO,
+        Command::GetGroupInfo,
+        rest,
+    );
+    let rest = command_or(
+        member == Command::REMOVE_FROM_GROUP,
+        Command::RemoveFromGroup,
+        rest,
+    );
+    let rest = command_or(member == Command::ADD_TO_GROUP, Command::AddToGroup, rest);
+    let rest = command_or(member == Command::DELETE_GROUP, Command::DeleteGroup, rest);
+    command_or(member == Command::CREATE_GROUP, Command::CreateGroup, rest)
 }
 
 // One of the eleven commands as type 0x01 or 0x02 to a server interface, or what is not served.
@@ -71,23 +93,44 @@ pub fn command(f: Fields) -> Decoded
     Decoded::NotServed
 }
 
-// The first octet of a payload, 0 where it is empty.
-fn first(payload: &[u8]) -> usize
-    ensures { λ r. ⌜ r ≡ octet 0 (now (payload .entry)) ⌝ }
+// The length that Create Group asks: name length and name, "so an empty payload is wrong". The contract alone asks which command it is.
+fn length_with_name(command: Command, payload: &[u8]) -> usize
+    requires { ⌜ command ≡ CreateGroup ⌝ }
+    ensures { λ r. ⌜ r ≡ row command .length (now (payload .entry)) ⌝ }
 {
     if payload.len() == 0 {
-        return 0;
+        return 1;
     }
-    payload[0] as usize
+    1 + payload[0] as usize
 }
 
-fn asking(rights: bool, length: usize) -> Asked
-    ensures rights { λ r. ⌜ r .rights ≡ rights ⌝ }
-    ensures length { λ r. ⌜ r .length ≡ length ⌝ }
+// How long should this payload be?
+fn length_asked(command: Command, payload: &[u8]) -> usize
+    ensures { λ r. ⌜ r ≡ row command .length (now (payload .entry)) ⌝ }
 {
-    Asked {
-        rights: rights,
-        length: length,
+    match command {
+        Command::AddBind => layouts::BIND,
+        Command::RemoveBinds(part) => layouts::part_length(part),
+        Command::CreateGroup => length_with_name(command, payload),
+        Command::DeleteGroup => layouts::ADDRESS,
+        Command::AddToGroup => layouts::MEMBER,
+        Command::RemoveFromGroup => layouts::MEMBER,
+        Command::GetGroupInfo => layouts::ADDRESS,
+    }
+}
+
+// Does it ask the sender's rights?
+fn asks_rights(command: Command) -> bool
+    ensures { λ r. ⌜ r ≡ row command .rights ⌝ }
+{
+    match command {
+        Command::AddBind => true,
+        Command::RemoveBinds(_) => true,
+        Command::CreateGroup => true,
+        Command::DeleteGroup => true,
+        Command::AddToGroup => true,
+        Command::RemoveFromGroup => true,
+        Command::GetGroupInfo => false,
     }
 }
 
@@ -96,13 +139,8 @@ pub fn demands(command: Command, payload: &[u8]) -> Asked
     ensures rights { λ r. ⌜ r .rights ≡ row command .rights ⌝ }
     ensures length { λ r. ⌜ r .length ≡ row command .length (now (payload .entry)) ⌝ }
 {
-    match command {
-        Command::AddBind => asking(true, layouts::BIND),
-        Command::RemoveBinds(part) => asking(true, layouts::part_length(part)),
-        Command::CreateGroup => asking(true, 1 + first(payload)),
-        Command::DeleteGroup => asking(true, layouts::ADDRESS),
-        Command::AddToGroup => asking(true, layouts::MEMBER),
-        Command::RemoveFromGroup => asking(true, layouts::MEMBER),
-        Command::GetGroupInfo => asking(false, layouts::ADDRESS),
+    Asked {
+        rights: asks_rights(command),
+        length: length_asked(command, payload),
     }
 }

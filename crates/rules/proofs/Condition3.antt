@@ -20,7 +20,7 @@ use Rattle.rules.specs.Message.{fields, payload, reads, header, reply}
 use Rattle.rules.specs.Exists.{unitExists}
 use Rattle.rules.specs.Recipients.{recipients}
 use Rattle.rules.specs.Payloads.{command, groupNamed}
-use Rattle.rules.specs.Commands.{row, judge, onOk, replyPayload, groupInfo}
+use Rattle.rules.specs.Commands.{judge, onOk, replyPayload, groupInfo}
 use Rattle.rules.specs.Calls.{roomy, wayTo, wayOn, way, Answer, answered, handled, forwarded, follow, message}
 use Rattle.rules.specs.History.{sends, said, after, Event, history, granted, counted, Request, Exactly, memberCount, Condition3}
 use Rattle.rules.proofs.Standing.{Agree}
@@ -55,7 +55,7 @@ module _ (L₀ L : Lent) (h : List Event) (k : Held L₀ L h) where
 
   info-payload : (s : DeviceAddress) (p : List ℕ) → judge (tables L) s GetGroupInfo p ≡ ok
       → replyPayload (tables L) GetGroupInfo p (judge (tables L) s GetGroupInfo p) ≡ ok .0 ∷ groupInfo (tables L Groups) (tables L Members) (groupNamed p)
-  unfolding replyPayload row onOk
+  unfolding replyPayload onOk
   info-payload s p j = rw j
 
   counted-right : (m r l : List ℕ) → command (fields m) ≡ Is GetGroupInfo → granted (sends m r l) (said L (sends m r l)) ≡ true

@@ -185,7 +185,7 @@ module _ (L : Lent) (p : List ℕ) (o : octetString p ≡ true) where
       (told-also Binds (says-withdrawn (λ b s. to-group g b small s)) told-nothing))
 
   granted-by : (k : Command) → Sane L → length p ≡ row k .length p → row k .verdict (tables L) p ≡ ok → Granted L k p
-  unfolding row lines fits silence hasPage
+  unfolding lines fits silence hasPage
   granted-by AddBind S l v =
       record { ok = ok-binds _ (order-added Binds L (bindOf p) refl (bind-stored p l o) v); told = told-also Binds says-added told-nothing }
   granted-by (RemoveBinds q) S l v =
@@ -210,5 +210,5 @@ module _ (L : Lent) (p : List ℕ) (o : octetString p ≡ true) where
 
 -- Get Group Info is answered 0x00 only of a group that exists
 pub info-granted : (T : Tables) (s : DeviceAddress) (p : List ℕ) → judge T s GetGroupInfo p ≡ ok → groupExists (T Groups) (groupNamed p) ≡ true
-unfolding judge row naming
+unfolding judge naming
 info-granted T s p j = pass invalid (pass invalid (pass unauthorized j .1) .1) .0

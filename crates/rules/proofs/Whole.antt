@@ -79,7 +79,7 @@ unfolding commands.addition commands.removal commands.naming commands.creation c
 of-commands = 0
 
 unfoldable of-commands-2 : ℕ
-unfolding commands.groupInfo commands.row commands.rightsFit commands.payloadFits commands.judge commands.onOk commands.done commands.replyPayload
+unfolding commands.groupInfo commands.rightsFit commands.payloadFits commands.judge commands.onOk commands.done commands.replyPayload
 of-commands-2 = 0
 
 unfoldable of-copy : ℕ

@@ -79,7 +79,7 @@ pub record Row : Type 0 where
   -- what its reply has behind 0x00
   pub behind : Tables → List ℕ → List ℕ
 
-unfoldable pub row : Command → Row
+abbrev pub row : Command → Row
 row AddBind =
     record {
       rights = true;

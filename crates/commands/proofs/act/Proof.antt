@@ -4,7 +4,6 @@ use native.Mathlib.Omega.{arith}
 use Rattle.words.specs.declared.Kind.the-variants.{Binds, Groups, Members}
 use Rattle.words.specs.declared.Command.the-variants.{AddBind, RemoveBinds, AddToGroup, RemoveFromGroup}
 use Rattle.rules.specs.Frame.{also}
-use Rattle.rules.specs.Commands.{row}
 use Rattle.rules.proofs.Frames.{replaced}
 use Rattle.commands.proofs.Sizes.{sizes}
 use Rattle.commands.proofs.Performing.{acts-on, acts-create-group, acts-delete-group, acts-get-group-info}
@@ -13,7 +12,6 @@ use Rattle.commands.proofs.act.Statement.{statement}
 use Rattle.commands.proofs.act.Tie as tie
 
 add-bind-requires : tie.Need-add-bind-requires
-unfolding row
 add-bind-requires c κs =
     let start = c .before .before .before .before .before .before .before .before .before .before in
     let z = sizes _ (start .pre .0 .sound) in
@@ -21,7 +19,6 @@ add-bind-requires c κs =
     (n, z .whole Binds)
 
 remove-binds-requires : tie.Need-remove-binds-requires
-unfolding row
 remove-binds-requires c κs =
     let start = c .before .before .before .before .before .before .before .before .before .before in
     let z = sizes _ (start .pre .0 .sound) in
@@ -29,7 +26,6 @@ remove-binds-requires c κs =
     (n, z .whole Binds)
 
 create-requires : tie.Need-create-requires
-unfolding row
 create-requires c κs =
     let start = c .before .before .before .before .before .before .before .before .before .before in
     let z = sizes _ (start .pre .0 .sound) in
@@ -37,7 +33,6 @@ create-requires c κs =
     (n, z .whole Groups, z .within Groups, omega (arith, start .pre .2))
 
 delete-group-requires : tie.Need-delete-group-requires
-unfolding row
 delete-group-requires c κs =
     let start = c .before .before .before .before .before .before .before .before .before .before .before in
     let z = sizes _ (start .pre .0 .sound) in
@@ -45,7 +40,6 @@ delete-group-requires c κs =
     (n, z .whole Binds, z .whole Groups, z .whole Members)
 
 add-to-group-requires : tie.Need-add-to-group-requires
-unfolding row
 add-to-group-requires c κs =
     let start = c .before .before .before .before .before .before .before .before .before .before in
     let z = sizes _ (start .pre .0 .sound) in
@@ -53,7 +47,6 @@ add-to-group-requires c κs =
     (n, z .whole Members)
 
 remove-from-group-requires : tie.Need-remove-from-group-requires
-unfolding row
 remove-from-group-requires c κs =
     let start = c .before .before .before .before .before .before .before .before .before in
     let z = sizes _ (start .pre .0 .sound) in
@@ -61,7 +54,6 @@ remove-from-group-requires c κs =
     (n, z .whole Members)
 
 get-group-info-requires : tie.Need-get-group-info-requires
-unfolding row
 get-group-info-requires c κs =
     let start = c .before .before .before .before .before .before .before .before .before .before .before in
     let z = sizes _ (start .pre .0 .sound) in
@@ -69,7 +61,7 @@ get-group-info-requires c κs =
     (z .named, z .within Members, n, start .pre .2)
 
 returns : tie.Need-returns
-unfolding row replaced also
+unfolding replaced also
 returns c = λ L.
     let w = c .before .before .write-code .ensures in
     let c8 = c .before .before .before .before .before .before .before .before in
@@ -77,7 +69,7 @@ returns c = λ L.
     (acts-on Binds _ AddBind _ _ _ refl refl (c .before .before .before .before .before .before .add-bind .ensures))
 
 returns-2 : tie.Need-returns-2
-unfolding row replaced also
+unfolding replaced also
 returns-2 c = λ L.
     let w = c .before .before .write-code2 .ensures in
     let c8 = c .before .before .before .before .before .before .before .before in
@@ -85,12 +77,12 @@ returns-2 c = λ L.
     (acts-on Binds _ (RemoveBinds _) _ _ _ refl refl (c .before .before .before .before .before .before .remove-binds .ensures))
 
 returns-3 : tie.Need-returns-3
-unfolding row replaced also
+unfolding replaced also
 returns-3 c = λ L. rw (c .before .before .before .before .before .before .before .enum-told2 .given .1)
     (acts-create-group _ _ _ (c .before .before .before .before .create .ensures))
 
 returns-4 : tie.Need-returns-4
-unfolding row replaced also
+unfolding replaced also
 returns-4 c = λ L.
     let w = c .before .before .write-code3 .ensures in
     let c8 = c .before .before .before .before .before .before .before .before in
@@ -98,7 +90,7 @@ returns-4 c = λ L.
     (acts-delete-group _ _ _ (c8 .before .before .delete-group .ensures))
 
 returns-5 : tie.Need-returns-5
-unfolding row replaced also
+unfolding replaced also
 returns-5 c = λ L.
     let w = c .before .before .write-code4 .ensures in
     let c8 = c .before .before .before .before .before .before .before .before in
@@ -106,14 +98,13 @@ returns-5 c = λ L.
     (acts-on Members _ AddToGroup _ _ _ refl refl (c .before .before .before .before .before .before .add-to-group .ensures))
 
 returns-6 : tie.Need-returns-6
-unfolding row replaced also
+unfolding replaced also
 returns-6 c = λ L.
     let w = c .before .before .write-code5 .ensures in
     rw (c .before .before .before .before .before .before .before .before .enum-told5 .given .1, w .0, w .1)
     (acts-on Members _ RemoveFromGroup _ _ _ refl refl (c .before .before .before .before .before .before .remove-from-group .ensures))
 
 returns-7 : tie.Need-returns-7
-unfolding row
 returns-7 c = λ L.
     let w = c .before .before .get-group-info .ensures in
     rw (c .before .before .before .before .before .before .enum-told6 .given .1, w .0, w .1) (acts-get-group-info _ _ _)

@@ -1,65 +1,12 @@
--- `payloads::decoding::bind_command` meets its contract. Each arm knows its member, the last one which it is not.
-use borrow.Author.Tests.{eq-eqb, ne-eqb}
+-- `payloads::decoding::bind_command` meets its contract: one command after the other, at most as many as `depth` says.
 use Rattle.rules.specs.Payloads.{bindCommand}
+use Rattle.payloads.proofs.Decoded.{then-rest}
 use Rattle.payloads.proofs.decoding.bind_command.Statement.{statement}
 use Rattle.payloads.proofs.decoding.bind_command.Tie as tie
 
 returns : tie.Need-returns
 unfolding bindCommand
-returns c = simp (eq-eqb _ _ (c .if1 .taken))
-
-returns-2 : tie.Need-returns-2
-unfolding bindCommand
-returns-2 c = simp (ne-eqb _ _ (c .before .if1 .left), eq-eqb _ _ (c .if2 .taken))
-
-returns-3 : tie.Need-returns-3
-unfolding bindCommand
-returns-3 c = simp (ne-eqb _ _ (c .before .before .if1 .left), ne-eqb _ _ (c .before .if2 .left), eq-eqb _ _ (c .if3 .taken))
-
-returns-4 : tie.Need-returns-4
-unfolding bindCommand
-returns-4 c =
-    simp (
-      ne-eqb _ _ (c .before .before .before .if1 .left),
-      ne-eqb _ _ (c .before .before .if2 .left),
-      ne-eqb _ _ (c .before .if3 .left),
-      eq-eqb _ _ (c .if4 .taken),
-    )
-
-returns-5 : tie.Need-returns-5
-unfolding bindCommand
-returns-5 c =
-    simp (
-      ne-eqb _ _ (c .before .before .before .before .if1 .left),
-      ne-eqb _ _ (c .before .before .before .if2 .left),
-      ne-eqb _ _ (c .before .before .if3 .left),
-      ne-eqb _ _ (c .before .if4 .left),
-      eq-eqb _ _ (c .if5 .taken),
-    )
-
-returns-6 : tie.Need-returns-6
-unfolding bindCommand
-returns-6 c =
-    simp (
-      ne-eqb _ _ (c .before .before .before .before .before .if1 .left),
-      ne-eqb _ _ (c .before .before .before .before .if2 .left),
-      ne-eqb _ _ (c .before .before .before .if3 .left),
-      ne-eqb _ _ (c .before .before .if4 .left),
-      ne-eqb _ _ (c .before .if5 .left),
-      eq-eqb _ _ (c .if6 .taken),
-    )
-
-returns-7 : tie.Need-returns-7
-unfolding bindCommand
-returns-7 c =
-    simp (
-      ne-eqb _ _ (c .before .before .before .before .before .if1 .left),
-      ne-eqb _ _ (c .before .before .before .before .if2 .left),
-      ne-eqb _ _ (c .before .before .before .if3 .left),
-      ne-eqb _ _ (c .before .before .if4 .left),
-      ne-eqb _ _ (c .before .if5 .left),
-      ne-eqb _ _ (c .if6 .left),
-    )
+returns c = search then-rest depth 32
 
 pub bind-command-spec : {M : Type 1} → statement M
-bind-command-spec = tie.close (tie.spec returns returns-2 returns-3 returns-4 returns-5 returns-6 returns-7)
+bind-command-spec = tie.close (search (tie.spec, returns))

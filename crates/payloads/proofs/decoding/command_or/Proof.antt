@@ -1,0 +1,10 @@
+-- `payloads::decoding::command_or` meets its contract.
+use borrow.Author.Needs.{needs}
+use Rattle.payloads.proofs.decoding.command_or.Statement.{statement}
+use Rattle.payloads.proofs.decoding.command_or.Tie as tie
+
+returns : tie.Need-returns
+returns c = rw (c .if1 .taken)
+
+pub command-or-spec : {M : Type 1} → statement M
+command-or-spec = tie.close (tie.spec returns (λ c. search needs))
