@@ -104,33 +104,13 @@ fn length_with_name(command: Command, payload: &[u8]) -> usize
     1 + payload[0] as usize
 }
 
-// How long should this payload be?
-fn length_asked(command: Command, payload: &[u8]) -> usize
-    ensures { λ r. ⌜ r ≡ row command .length (now (payload .entry)) ⌝ }
+fn asking(rights: bool, length: usize) -> Asked
+    ensures rights { λ r. ⌜ r .rights ≡ rights ⌝ }
+    ensures length { λ r. ⌜ r .length ≡ length ⌝ }
 {
-    match command {
-        Command::AddBind => layouts::BIND,
-        Command::RemoveBinds(part) => layouts::part_length(part),
-        Command::CreateGroup => length_with_name(command, payload),
-        Command::DeleteGroup => layouts::ADDRESS,
-        Command::AddToGroup => layouts::MEMBER,
-        Command::RemoveFromGroup => layouts::MEMBER,
-        Command::GetGroupInfo => layouts::ADDRESS,
-    }
-}
-
-// Does it ask the sender's rights?
-fn asks_rights(command: Command) -> bool
-    ensures { λ r. ⌜ r ≡ row command .rights ⌝ }
-{
-    match command {
-        Command::AddBind => true,
-        Command::RemoveBinds(_) => true,
-        Command::CreateGroup => true,
-        Command::DeleteGroup => true,
-        Command::AddToGroup => true,
-        Command::RemoveFromGroup => true,
-        Command::GetGroupInfo => false,
+    Asked {
+        rights: rights,
+        length: length,
     }
 }
 
@@ -139,8 +119,13 @@ pub fn demands(command: Command, payload: &[u8]) -> Asked
     ensures rights { λ r. ⌜ r .rights ≡ row command .rights ⌝ }
     ensures length { λ r. ⌜ r .length ≡ row command .length (now (payload .entry)) ⌝ }
 {
-    Asked {
-        rights: asks_rights(command),
-        length: length_asked(command, payload),
+    match command {
+        Command::AddBind => asking(true, layouts::BIND),
+        Command::RemoveBinds(part) => asking(true, layouts::part_length(part)),
+        Command::CreateGroup => asking(true, length_with_name(command, payload)),
+        Command::DeleteGroup => asking(true, layouts::ADDRESS),
+        Command::AddToGroup => asking(true, layouts::MEMBER),
+        Command::RemoveFromGroup => asking(true, layouts::MEMBER),
+        Command::GetGroupInfo => asking(false, layouts::ADDRESS),
     }
 }
