@@ -1,12 +1,7 @@
 -- Laws of the commands of Bind Management: where Add Bind's field rules fail and where they hold, and what a removal looks for.
-use mathlib.Core.Path.{_≡_, refl, ap}
-use mathlib.Core.Bool.{Bool, not, _&&_}
-use mathlib.Core.List.{List}
-use Prim.Native.Nat.{ℕ, _+_, _≤_}
-use native.Mathlib.Omega.{arith}
-use Rattle.words.specs.declared.BindPart.{BindPart}
+use Rattle.words.specs.Basics.{_≡_, refl, ap, Bool, not, _&&_, List, ℕ, _+_, _≤_, arith}
 use Rattle.words.specs.declared.BindPart.the-variants.{Whole, Source, SourceUnit, Destination, DestinationUnit}
-use Rattle.words.specs.declared.Kind.the-variants.{Binds}
+use Rattle.rules.specs.Types.{BindPart, Binds}
 use Rattle.rules.specs.Octets.{ignoreTop}
 use Rattle.rules.specs.Tables.{Rec, free?, matches}
 use Rattle.rules.specs.Layout.{size, partStart, partLength, partIs}

@@ -1,12 +1,7 @@
 -- Laws of a change of one table: a code of 0x00 comes with the change, any other with the table as it was.
-use mathlib.Core.Path.{_≡_, sym, ap, _∙_}
-use mathlib.Core.Bool.{Bool, true, false, not}
-use mathlib.Core.List.{List}
-use Prim.Native.Nat.{ℕ}
-use native.Mathlib.Omega.{arith}
-use borrow.Author.Tests.{eq-eqb, ne-eqb}
+use Rattle.words.specs.Basics.{_≡_, sym, ap, _∙_, Bool, true, false, not, List, ℕ, arith, eq-eqb, ne-eqb}
 use Rattle.words.specs.Names.{ok, invalidArgument, notEnoughResources}
-use Rattle.words.specs.declared.Code.{Code}
+use Rattle.rules.specs.Types.{Code}
 use Rattle.rules.specs.Lists.{any, ask}
 use Rattle.rules.specs.Tables.{Rec, used, someFree, matches, Change, written}
 use Rattle.rules.specs.Commands.{onOk, addition, removal}

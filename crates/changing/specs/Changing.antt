@@ -1,7 +1,6 @@
 -- What a change of one table answers: the code of its checks, and the table that was lent, changed where the code is 0x00.
-use mathlib.Core.List.{List}
-use Prim.Native.Nat.{ℕ}
-use Rattle.words.specs.declared.Code.{Code}
+use Rattle.words.specs.Basics.{List, ℕ}
+use Rattle.rules.specs.Types.{Code}
 use Rattle.rules.specs.Tables.{Change, written}
 use Rattle.rules.specs.Commands.{onOk}
 

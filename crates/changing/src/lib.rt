@@ -1,11 +1,7 @@
 // The two ways in which a command changes a table (document 01, Tables and Commands and codes): one record more, or all that match free; and the
 // reply that is its code.
 use words::Code;
-ghost use mathlib.Core.Path.{_≡_};
-ghost use mathlib.Core.Bool.{not};
-ghost use mathlib.Core.List.{[], _∷_};
-ghost use Prim.Native.Nat.{_+_, _%_, _<_, _≤_};
-ghost use lib.ListN.{length};
+ghost use Rattle.words.specs.Basics.{_≡_, not, [], _∷_, _+_, _%_, _<_, _≤_, length};
 ghost use Rattle.words.specs.Names.{ok, invalidArgument, notEnoughResources};
 ghost use Rattle.rules.specs.Lists.{ask};
 ghost use Rattle.rules.specs.Octets.{over};

@@ -1,10 +1,6 @@
 -- Who is left out (document 01, Recipients, "without the sender"), and those that are taken.
-use mathlib.Core.Bool.{Bool, false, not}
-use mathlib.Core.List.{List}
-use Prim.Native.Nat.{ℕ}
-use lib.Dec.{eqb}
-use Rattle.words.specs.declared.Fields.{Fields}
-use Rattle.words.specs.declared.GroupAddress.{GroupAddress}
+use Rattle.words.specs.Basics.{Bool, false, not, List, ℕ, eqb}
+use Rattle.rules.specs.Types.{GroupAddress, Fields}
 use Rattle.rules.specs.Lists.{keep}
 use Rattle.rules.specs.Tables.{Rec}
 use Rattle.rules.specs.Recipients.{membersOf, bound}

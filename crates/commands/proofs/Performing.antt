@@ -1,18 +1,7 @@
 -- Laws of a command whole: what a check that fails leaves, and what a handler's answer makes of the tables and the reply.
-use mathlib.Core.Path.{_≡_, refl, sym, ap, _∙_}
-use mathlib.Core.Bool.{Bool, true, false, cond}
-use mathlib.Core.List.{List, [], _∷_}
-use Prim.Native.Nat.{ℕ}
-use borrow.Author.Tests.{eq-eqb, ne-eqb}
-use lib.Dec.{eqb}
-use lib.ListN.{length}
+use Rattle.words.specs.Basics.{_≡_, refl, sym, ap, _∙_, Bool, true, false, cond, List, [], _∷_, ℕ, eqb, length, eq-eqb, ne-eqb}
 use Rattle.words.specs.Names.{ok, notAuthorized, invalidArgument}
-use Rattle.words.specs.declared.Code.{Code}
-use Rattle.words.specs.declared.DeviceAddress.{DeviceAddress}
-use Rattle.words.specs.declared.Kind.{Kind}
-use Rattle.words.specs.declared.Kind.the-variants.{Devices, Binds, Groups, Members}
-use Rattle.words.specs.declared.Command.{Command}
-use Rattle.words.specs.declared.Command.the-variants.{CreateGroup, DeleteGroup, GetGroupInfo}
+use Rattle.rules.specs.Types.{DeviceAddress, Code, Command, CreateGroup, DeleteGroup, GetGroupInfo, Kind, Devices, Binds, Groups, Members}
 use Rattle.rules.specs.Octets.{over}
 use Rattle.rules.specs.Tables.{Change, written}
 use Rattle.rules.specs.Layout.{size}

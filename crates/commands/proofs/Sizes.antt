@@ -1,11 +1,6 @@
 -- What a handler may count on, from soundness: whole records, tables within their limits, and groups whose fields are in range.
-use mathlib.Core.Path.{_≡_}
-use mathlib.Core.Bool.{true}
-use Prim.Native.Nat.{_*_, _%_, _≤_}
-use borrow.Author.Tests.{leb-true}
-use lib.ListN.{length}
-use Rattle.words.specs.declared.Kind.{Kind}
-use Rattle.words.specs.declared.Kind.the-variants.{Groups}
+use Rattle.words.specs.Basics.{_≡_, true, _*_, _%_, _≤_, length, leb-true}
+use Rattle.rules.specs.Types.{Kind, Groups}
 use Rattle.rules.specs.Lists.{all}
 use Rattle.rules.specs.Tables.{used}
 use Rattle.rules.specs.Layout.{size, full}

@@ -1,12 +1,6 @@
 -- A command whole: the payload of its reply over the part of the lent reply behind the header, and the tables after it.
-use mathlib.Core.Path.{_≡_}
-use mathlib.Core.Bool.{true}
-use mathlib.Core.List.{List}
-use Prim.Native.Nat.{ℕ}
-use lib.ListN.{length}
-use Rattle.words.specs.declared.Code.{Code}
-use Rattle.words.specs.declared.DeviceAddress.{DeviceAddress}
-use Rattle.words.specs.declared.Command.{Command}
+use Rattle.words.specs.Basics.{_≡_, true, List, ℕ, length}
+use Rattle.rules.specs.Types.{DeviceAddress, Code, Command}
 use Rattle.rules.specs.Octets.{over}
 use Rattle.rules.specs.Frame.{Lent, lent, tables, changed}
 use Rattle.rules.specs.Sound.{sound}

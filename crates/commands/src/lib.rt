@@ -2,12 +2,9 @@
 use words::Code;
 use words::Command;
 use words::DeviceAddress;
-ghost use mathlib.Core.Path.{_≡_};
-ghost use mathlib.Core.Bool.{true, cond};
-ghost use Prim.Native.Nat.{_+_, _≤_};
-ghost use lib.ListN.{length};
+ghost use Rattle.words.specs.Basics.{_≡_, true, cond, _+_, _≤_, length};
 ghost use Rattle.words.specs.Names.{headerLength, longest};
-ghost use Rattle.words.specs.declared.Kind.the-variants.{Devices};
+ghost use Rattle.rules.specs.Types.{Devices};
 ghost use Rattle.rules.specs.Frame.{Lent, table};
 ghost use Rattle.rules.specs.Exists.{hasRights};
 ghost use Rattle.rules.specs.Commands.{row};

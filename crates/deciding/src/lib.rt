@@ -5,12 +5,8 @@ use words::Fields;
 use words::Outcome;
 use words::Reading;
 use words::Way;
-ghost use mathlib.Core.Path.{_≡_};
-ghost use mathlib.Core.List.{List};
-ghost use Prim.Native.Nat.{ℕ, max};
-ghost use Rattle.words.specs.declared.Kind.the-variants.{Devices, Groups};
-ghost use Rattle.words.specs.declared.Outcome.the-variants.{NoDestination};
-ghost use Rattle.words.specs.declared.Way.the-variants.{Refuse, Forward};
+ghost use Rattle.words.specs.Basics.{_≡_, List, ℕ, max};
+ghost use Rattle.rules.specs.Types.{Devices, Groups, NoDestination, Refuse, Forward};
 ghost use Rattle.rules.specs.Lists.{ask};
 ghost use Rattle.rules.specs.Frame.{lent, table};
 ghost use Rattle.rules.specs.Message.{reading};
@@ -40,7 +36,7 @@ fn to_many(to: Destination) -> bool
 {
     match to {
         Destination::Concentrator => false,
-        Destination::Binds => true,
+        Destination::BindAddress => true,
         Destination::Unit(_, _) => false,
         Destination::Group(_) => true,
     }
@@ -73,7 +69,7 @@ fn way_to(devices: &[u8], groups: &[u8], to: Destination, f: Fields) -> Way
 {
     match to {
         Destination::Concentrator => asking(payloads::command(f)),
-        Destination::Binds => Way::Forward(to),
+        Destination::BindAddress => Way::Forward(to),
         Destination::Unit(d, u) => forwarding(existing::unit_exists(devices, d, u), to),
         Destination::Group(g) => forwarding(existing::group_exists(groups, g), to),
     }

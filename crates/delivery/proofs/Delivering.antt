@@ -1,20 +1,8 @@
 -- Laws of delivery: what was collected from none on is put in order, and is what the rules say.
-use mathlib.Core.Path.{_≡_, refl, sym, ap, _∙_}
-use mathlib.Core.Bool.{true}
-use mathlib.Core.List.{List, [], _∷_, flatMap}
-use Prim.Native.Nat.{ℕ, _+_, _*_, _/_, _%_, _≤_, max}
-use native.Mathlib.Omega.{arith}
-use borrow.Author.Tests.{leb-true}
-use lib.Dec.{eqb, leb}
-use lib.ListN.{length}
+use Rattle.words.specs.Basics.{_≡_, refl, sym, ap, _∙_, true, List, [], _∷_, flatMap, ℕ, _+_, _*_, _/_, _%_, _≤_, max, arith, eqb, leb, length, leb-true}
 use Rattle.words.specs.Names.{longest}
-use Rattle.words.specs.declared.DeviceAddress.{DeviceAddress}
-use Rattle.words.specs.declared.GroupAddress.{GroupAddress}
-use Rattle.words.specs.declared.Fields.{Fields}
-use Rattle.words.specs.declared.Kind.{Kind}
-use Rattle.words.specs.declared.Kind.the-variants.{Binds as bind-table, Members}
 use Rattle.words.specs.declared.Destination.{Destination}
-use Rattle.words.specs.declared.Destination.the-variants.{Concentrator, Binds, Unit, Group}
+use Rattle.rules.specs.Types.{DeviceAddress, GroupAddress, Fields, Concentrator, BindAddress, Unit, Group, Kind, Binds, Members}
 use Rattle.rules.specs.Octets.{over}
 use Rattle.rules.specs.Units.{unitNumber, unitOctets, ordered, once, without}
 use Rattle.rules.specs.Message.{sender}
@@ -46,8 +34,8 @@ module _ {vs : List ℕ} {n₀ : ℕ} {l : List ℕ} {n : ℕ} {l′ : List ℕ}
   all-taken = ap (units n) (from-none .octets) ∙ rw (from-none .count) (units-written (addedAll vs []) l)
 
   -- none stands twice, and they are no more than a list that has them all
-  pub collected-fits : (ws : List ℕ) → Within vs ws → length ws ≤ most bind-table + most Members → 3 * length ws ≤ length l′
-      → (3 * n ≤ length l′) × (n ≤ most bind-table + most Members) × (once (units n l′) ≡ true)
+  pub collected-fits : (ws : List ℕ) → Within vs ws → length ws ≤ most Binds + most Members → 3 * length ws ≤ length l′
+      → (3 * n ≤ length l′) × (n ≤ most Binds + most Members) × (once (units n l′) ≡ true)
   unfolding once
   collected-fits ws w h k =
       let f : n ≤ length ws = omega (arith, from-none .count, count-within vs ws w) in
@@ -77,23 +65,23 @@ enough-for-first {u} z h = enough-within (u ∷ []) z (λ x e. e) (omega arith)
 -- Each kind of destination, by the rules
 
 module _ (bs ms : List ℕ) (f : Fields) (l : List ℕ) {to : Destination} where
-  pub delivered-none : to ≡ Concentrator → Listing l l 0 (recipients (table bind-table bs) (table Members ms) to f)
+  pub delivered-none : to ≡ Concentrator → Listing l l 0 (recipients (table Binds bs) (table Members ms) to f)
   unfolding recipients over unitOctets flatMap
   delivered-none e = rw e (record { count = refl; octets = refl })
 
   module _ {n : ℕ} {l′ : List ℕ} where
-    pub delivered-binds : {s : ℕ} → to ≡ Binds → s ≡ sender f → Listing l l′ n (ordered (boundBut (Sender s) f (table Members ms) (table bind-table bs)))
-        → Listing l l′ n (recipients (table bind-table bs) (table Members ms) to f)
+    pub delivered-binds : {s : ℕ} → to ≡ BindAddress → s ≡ sender f → Listing l l′ n (ordered (boundBut (Sender s) f (table Members ms) (table Binds bs)))
+        → Listing l l′ n (recipients (table Binds bs) (table Members ms) to f)
     unfolding recipients boundBut leaving without
     delivered-binds e q h = rw (e, ← q) h
 
     pub delivered-unit : {d : DeviceAddress} {u : ℕ} → to ≡ Unit d u → Listing l l′ n (unitNumber d u ∷ [])
-        → Listing l l′ n (recipients (table bind-table bs) (table Members ms) to f)
+        → Listing l l′ n (recipients (table Binds bs) (table Members ms) to f)
     unfolding recipients
     delivered-unit e h = rw e h
 
     pub delivered-group : {s : ℕ} {g : GroupAddress} → to ≡ Group g → s ≡ sender f → Listing l l′ n (ordered (membersBut (Sender s) g (table Members ms)))
-        → Listing l l′ n (recipients (table bind-table bs) (table Members ms) to f)
+        → Listing l l′ n (recipients (table Binds bs) (table Members ms) to f)
     unfolding recipients membersBut leaving without
     delivered-group e q h = rw (e, ← q) h
 
@@ -109,8 +97,8 @@ pub deliverable : (L : Lent) (reply list : List ℕ) → roomy (L .binds) (L .me
     → Deliverable (L .binds) (L .members) list
 unfolding roomy
 deliverable L reply list r s = record {
-  binds = within-limit L s bind-table;
+  binds = within-limit L s Binds;
   members = within-limit L s Members;
-  room = leb-true (3 * max 1 (length (L .binds) / size bind-table + length (L .members) / size Members)) (length list)
+  room = leb-true (3 * max 1 (length (L .binds) / size Binds + length (L .members) / size Members)) (length list)
       (split {a = leb longest (length reply)} r .1);
 }

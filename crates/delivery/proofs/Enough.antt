@@ -1,14 +1,7 @@
 -- The room that outcome 17 asks for is enough for any tables: the recipients, each once, are no more than the binds and the member records.
-use mathlib.Core.Path.{_≡_, refl, sym, _∙_}
-use mathlib.Core.Bool.{Bool, true, false, false≢true, cond, or-true, or-false, _&&_, _||_}
-use mathlib.Core.List.{List, [], _∷_, _++_, map, flatMap}
-use Prim.Native.Nat.{ℕ, _+_, _*_, _/_, _≤_}
-use native.Mathlib.Omega.{arith}
-use lib.Dec.{eqb}
-use lib.ListN.{length, length-append, length-map}
-use Rattle.words.specs.declared.Fields.{Fields}
-use Rattle.words.specs.declared.GroupAddress.{GroupAddress}
-use Rattle.words.specs.declared.Kind.the-variants.{Binds, Members}
+use Rattle.words.specs.Basics.{_≡_, refl, sym, _∙_, Bool, true, false, cond, _&&_, _||_, false≢true, or-false, or-true, List, [], _∷_, _++_, map, flatMap, ℕ}
+use Rattle.words.specs.Basics.{_+_, _*_, _/_, _≤_, arith, eqb, length, length-append, length-map}
+use Rattle.rules.specs.Types.{GroupAddress, Fields, Binds, Members}
 use Rattle.rules.specs.Lists.{any, has, keep}
 use Rattle.rules.specs.Units.{once}
 use Rattle.rules.specs.Tables.{Rec, used}

@@ -1,10 +1,6 @@
 -- Laws of what exists: an address and the rights behind it are three octets that a record begins with.
-use mathlib.Core.Path.{_≡_, refl}
-use mathlib.Core.Bool.{Bool, true, false, _&&_}
-use mathlib.Core.List.{List, [], _∷_}
-use Prim.Native.Nat.{ℕ, _/_, _%_}
-use lib.Dec.{eqb}
-use Rattle.words.specs.declared.DeviceAddress.{DeviceAddress}
+use Rattle.words.specs.Basics.{_≡_, refl, Bool, true, false, _&&_, List, [], _∷_, ℕ, _/_, _%_, eqb}
+use Rattle.rules.specs.Types.{DeviceAddress}
 use Rattle.rules.specs.Lists.{_&_, any}
 use Rattle.rules.specs.Octets.{octet, octets}
 use Rattle.rules.specs.Tables.{Rec, matches, addressed}

@@ -5,15 +5,13 @@ use layouts::HIGHEST_UNIT;
 use layouts::address_octets;
 use words::DeviceAddress;
 use words::GroupAddress;
-ghost use mathlib.Core.Path.{_≡_};
-ghost use Prim.Native.Nat.{_+_, _≤_};
-ghost use lib.ListN.{length, take, drop};
+ghost use Rattle.words.specs.Basics.{_≡_, _+_, _≤_, length, take, drop};
+ghost use Rattle.rules.specs.Types.{Devices, Groups};
 ghost use Rattle.rules.specs.Lists.{any};
 ghost use Rattle.rules.specs.Tables.{records, used, addressed};
 ghost use Rattle.rules.specs.Layout.{size};
 ghost use Rattle.rules.specs.Frame.{table};
 ghost use Rattle.rules.specs.Exists.{admitted, hasUnit, unitExists, hasRights, groupExists};
-ghost use Rattle.words.specs.declared.Kind.the-variants.{Devices, Groups};
 ghost use Rattle.records.specs.Search.{passes};
 
 // Does a record of the table begin with this address?

@@ -1,12 +1,5 @@
 -- Laws of the padding behind a name.
-use mathlib.Core.Path.{_≡_, _∙_}
-use mathlib.Core.Bool.{Bool, true}
-use mathlib.Core.List.{List}
-use Prim.Native.Nat.{ℕ, _+_, _-_, _≤_, _<_}
-use native.Mathlib.Omega.{arith}
-use lib.Dec.{eqb}
-use lib.ListN.{length, take, drop, length-drop, drop-of-length-le}
-use lib.Seq.{take-all}
+use Rattle.words.specs.Basics.{_≡_, _∙_, Bool, true, List, ℕ, _+_, _-_, _<_, _≤_, arith, eqb, length, take, drop, length-drop, drop-of-length-le, take-all}
 use Rattle.rules.specs.Lists.{all}
 use Rattle.rules.specs.Layout.{nameLength}
 

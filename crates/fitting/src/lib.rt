@@ -2,15 +2,12 @@
 use words::DeviceAddress;
 use words::Fields;
 use words::Kind;
-ghost use mathlib.Core.Path.{_≡_};
-ghost use Prim.Native.Nat.{_<_};
-ghost use lib.Dec.{eqb};
-ghost use lib.ListN.{length};
+ghost use Rattle.words.specs.Basics.{_≡_, _<_, eqb, length};
+ghost use Rattle.rules.specs.Types.{Devices, Groups};
 ghost use Rattle.rules.specs.Lists.{all};
 ghost use Rattle.rules.specs.Layout.{size, namePadding};
 ghost use Rattle.rules.specs.Frame.{table};
 ghost use Rattle.rules.specs.Sound.{addressFits, deviceInRange, deviceFits, groupFits, destinationFits, bindFits, memberFits, fits};
-ghost use Rattle.words.specs.declared.Kind.the-variants.{Devices, Groups};
 
 // Is this an address that a device or a group may have?
 fn address_fits(address: u16) -> bool

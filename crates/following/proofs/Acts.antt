@@ -1,15 +1,8 @@
 -- What the acting parts leave: a command that is handled, a list of recipients.
-use mathlib.Core.Path.{_≡_, ap}
-use mathlib.Core.List.{List, [], _∷_, flatMap}
-use Prim.Native.Nat.{ℕ, _+_, _-_, _≤_}
-use native.Mathlib.Omega.{arith}
 use borrow.Rule.Slice.PartMut.{midOf, putMid}
-use lib.ListN.{length, drop, length-drop}
-use lib.Seq.{length-take-le}
+use Rattle.words.specs.Basics.{_≡_, ap, List, [], _∷_, flatMap, ℕ, _+_, _-_, _≤_, arith, length, drop, length-drop, length-take-le}
 use Rattle.words.specs.Names.{headerLength, longest}
-use Rattle.words.specs.declared.Fields.{Fields}
-use Rattle.words.specs.declared.Command.{Command}
-use Rattle.words.specs.declared.Outcome.the-variants.{Done, Forwarded, Nobody}
+use Rattle.rules.specs.Types.{Fields, Command, Done, Forwarded, Nobody}
 use Rattle.rules.specs.Octets.{over}
 use Rattle.rules.specs.Units.{unitOctets}
 use Rattle.rules.specs.Frame.{Lent, tables, changed}

@@ -1,9 +1,7 @@
 -- What the acting parts of a message are handed.
-use mathlib.Core.List.{List, []}
-use Prim.Native.Nat.{ℕ, _≤_}
-use lib.ListN.{length}
+use Rattle.words.specs.Basics.{List, [], ℕ, _≤_, length}
 use Rattle.words.specs.Names.{longest}
-use Rattle.words.specs.declared.Fields.{Fields}
+use Rattle.rules.specs.Types.{Fields}
 use Rattle.rules.specs.Frame.{Lent, made}
 use Rattle.messages.specs.Ranges.{Ranged}
 use Rattle.commands.specs.Perform.{Workable}

@@ -1,14 +1,11 @@
 -- An answer of `rules`, told in numbers: what each exported call returns, once the call of `hub` has answered and `number` and `value` have told its outcome.
-use mathlib.Core.Path.{_≡_, ap}
-use mathlib.Core.List.{List}
-use Prim.Native.Nat.{ℕ}
+use Rattle.words.specs.Basics.{_≡_, ap, List, ℕ}
 use Rattle.words.specs.Outcomes.{numberOf, valueOf}
+use Rattle.rules.specs.Types.{Outcome, Reading}
 use Rattle.rules.specs.Frame.{Lent}
 use Rattle.rules.specs.Calls.{Answer, answer}
 use Rattle.rules.specs.Copy.{CopyAnswer, copyAnswer}
 use Rattle.rules.specs.Host.{HostAnswer, hostAnswer}
-use Rattle.words.specs.declared.Outcome.{Outcome}
-use Rattle.words.specs.declared.Reading.{Reading}
 use Rattle.gneissfold.specs.Numbers.{messageTold, ofMessage, hostTold, ofHost, copyTold, ofCopy, readTold, ofReading, twelve}
 
 pub message-tells : {o : Outcome} {L : Lent} {r l : List ℕ} {a : Answer} {n c : ℕ}

@@ -1,14 +1,12 @@
 -- What the exported calls answer: the answers of `rules`, with the outcome as the paper's number (document 01, Outcomes) and the count or length that
 -- goes with it.
-use mathlib.Core.List.{List, [], _∷_}
-use Prim.Native.Nat.{ℕ}
+use Rattle.words.specs.Basics.{List, [], _∷_, ℕ}
 use Rattle.words.specs.Outcomes.{numberOf, valueOf}
+use Rattle.rules.specs.Types.{Fields, Reading}
 use Rattle.rules.specs.Frame.{Lent}
 use Rattle.rules.specs.Calls.{Answer}
 use Rattle.rules.specs.Copy.{CopyAnswer}
 use Rattle.rules.specs.Host.{HostAnswer}
-use Rattle.words.specs.declared.Fields.{Fields}
-use Rattle.words.specs.declared.Reading.{Reading}
 
 -- of a message: outcome number, reply length or recipient count, and every octet lent
 pub record MessageTold : Type 0 where

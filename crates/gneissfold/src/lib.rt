@@ -3,7 +3,7 @@
 // No call requires anything: each answers on any octets and any lengths.
 use words::DeviceAddress;
 use words::Fields;
-ghost use mathlib.Core.Path.{_≡_};
+ghost use Rattle.words.specs.Basics.{_≡_};
 ghost use Rattle.words.specs.Names.{device};
 ghost use Rattle.rules.specs.Frame.{lent};
 ghost use Rattle.rules.specs.Calls.{message};

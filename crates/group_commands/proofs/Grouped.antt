@@ -1,17 +1,9 @@
 -- Laws of the commands of Group Management that change tables, by what was found.
-use mathlib.Core.Path.{_≡_, refl, sym, ap, _∙_}
-use mathlib.Core.Bool.{Bool, true, false, cond}
-use mathlib.Core.List.{List, [], _∷_}
-use Prim.Native.Nat.{ℕ, _+_, _*_, _≤_, _<_}
-use native.Mathlib.Omega.{arith}
-use borrow.Author.Tests.{lt-leb, le-leb, leb-true}
-use lib.Dec.{leb}
-use lib.ListN.{length}
+use Rattle.words.specs.Basics.{_≡_, refl, sym, ap, _∙_, Bool, true, false, cond, List, [], _∷_, ℕ, _+_, _*_, _<_, _≤_, arith, leb, length, leb-true, le-leb}
+use Rattle.words.specs.Basics.{lt-leb}
 use Rattle.words.specs.Names.{flagSet, ok, invalidArgument, notEnoughResources}
 use Rattle.words.specs.declared.BindPart.the-variants.{Destination}
-use Rattle.words.specs.declared.Code.{Code}
-use Rattle.words.specs.declared.GroupAddress.{GroupAddress}
-use Rattle.words.specs.declared.Kind.the-variants.{Binds, Groups, Members}
+use Rattle.rules.specs.Types.{GroupAddress, Code, Binds, Groups, Members}
 use Rattle.rules.specs.Lists.{ask}
 use Rattle.rules.specs.Octets.{octet, octets, joined, over}
 use Rattle.rules.specs.Tables.{Rec, someFree, matches, addressed, store, wipe, written}

@@ -1,13 +1,8 @@
 -- The loop that looks for the smallest group address not in use: of the addresses from here on it finds what it would find from the first.
-use mathlib.Core.Path.{_≡_}
-use mathlib.Core.Bool.{Bool, true, false, cond}
-use mathlib.Core.List.{List}
-use Prim.Native.Nat.{ℕ, zero, suc, _+_, _-_, _*_, _/_, _≤_, _<_}
 use native.Mathlib.Numerals.{add-one}
-use native.Mathlib.Omega.{arith}
-use lib.ListN.{length}
+use Rattle.words.specs.Basics.{_≡_, Bool, true, false, cond, List, ℕ, zero, suc, _+_, _-_, _*_, _/_, _<_, _≤_, arith, length}
 use Rattle.words.specs.Names.{group, lowest}
-use Rattle.words.specs.declared.Kind.the-variants.{Groups}
+use Rattle.rules.specs.Types.{Groups}
 use Rattle.rules.specs.Layout.{size, most, full}
 use Rattle.rules.specs.Frame.{table}
 use Rattle.rules.specs.Exists.{groupExists}

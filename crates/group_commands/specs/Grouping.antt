@@ -1,10 +1,6 @@
 -- What Delete Group and Create Group answer: a code or a reply, and the tables that were lent, changed where the code is 0x00.
-use mathlib.Core.List.{List, [], _∷_}
-use Prim.Native.Nat.{ℕ}
-use lib.ListN.{length}
-use Rattle.words.specs.declared.Code.{Code}
-use Rattle.words.specs.declared.GroupAddress.{GroupAddress}
-use Rattle.words.specs.declared.Kind.the-variants.{Binds, Groups, Members}
+use Rattle.words.specs.Basics.{List, [], _∷_, ℕ, length}
+use Rattle.rules.specs.Types.{GroupAddress, Code, Binds, Groups, Members}
 use Rattle.rules.specs.Octets.{octets, over}
 use Rattle.rules.specs.Tables.{addressed, store, wipe, written}
 use Rattle.rules.specs.Layout.{size, groupRecord, toThisGroup, inGroup}

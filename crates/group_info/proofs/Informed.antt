@@ -1,13 +1,6 @@
 -- Get Group Info lists every member, and there are no more of them than records.
-use mathlib.Core.Path.{_≡_, refl, ap}
-use mathlib.Core.Bool.{Bool, true, false, cond, not}
-use mathlib.Core.List.{List, [], _∷_, map}
-use Prim.Native.Nat.{ℕ, suc, _*_, _≤_}
-use native.Mathlib.Omega.{arith}
-use lib.Dec.{eqb, ltb}
-use lib.ListN.{length, length-map}
-use Rattle.words.specs.declared.GroupAddress.{GroupAddress}
-use Rattle.words.specs.declared.Kind.the-variants.{Members}
+use Rattle.words.specs.Basics.{_≡_, refl, ap, Bool, true, false, cond, not, List, [], _∷_, map, ℕ, suc, _*_, _≤_, arith, eqb, ltb, length, length-map}
+use Rattle.rules.specs.Types.{GroupAddress, Members}
 use Rattle.rules.specs.Lists.{keep}
 use Rattle.rules.specs.Units.{insert, ordered}
 use Rattle.rules.specs.Tables.{Rec, free?, used}

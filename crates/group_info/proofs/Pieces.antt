@@ -1,14 +1,9 @@
 -- Get Group Info's reply, piece by piece: what stands before the members, and the members behind it.
-use mathlib.Core.Path.{_≡_, refl, sym, _∙_}
-use mathlib.Core.List.{List, [], _∷_, _++_}
-use Prim.Native.Nat.{ℕ, _+_, _-_, _*_, _≤_}
-use native.Mathlib.Omega.{arith}
-use lib.ListN.{length, take, drop, length-append, length-drop}
-use lib.Seq.{sets, length-take-le}
 use borrow.Rule.Slice.PartMut.{putMid}
+use Rattle.words.specs.Basics.{_≡_, refl, sym, _∙_, List, [], _∷_, _++_, ℕ, _+_, _-_, _*_, _≤_, arith, length, take, drop, length-drop, length-append, sets}
+use Rattle.words.specs.Basics.{length-take-le}
 use Rattle.words.specs.Names.{ok, headerLength, longest}
-use Rattle.words.specs.declared.GroupAddress.{GroupAddress}
-use Rattle.words.specs.declared.Kind.the-variants.{Groups, Members}
+use Rattle.rules.specs.Types.{GroupAddress, Groups, Members}
 use Rattle.rules.specs.Octets.{octets, over}
 use Rattle.rules.specs.Units.{unitOctets, ordered}
 use Rattle.rules.specs.Tables.{Rec}

@@ -1,13 +1,7 @@
 -- The group that a search found, and what is answered of it.
-use mathlib.Core.Path.{_≡_, sym, ap, _∙_}
-use mathlib.Core.Bool.{true, false}
-use mathlib.Core.List.{List, [], _∷_}
-use Prim.Native.Nat.{ℕ, _+_, _≤_}
-use borrow.Author.Tests.{leb-true}
-use lib.ListN.{length, take, drop}
+use Rattle.words.specs.Basics.{_≡_, sym, ap, _∙_, true, false, List, [], _∷_, ℕ, _+_, _≤_, length, take, drop, leb-true}
 use Rattle.words.specs.Names.{ok, invalidArgument}
-use Rattle.words.specs.declared.GroupAddress.{GroupAddress}
-use Rattle.words.specs.declared.Kind.the-variants.{Groups}
+use Rattle.rules.specs.Types.{GroupAddress, Groups}
 use Rattle.rules.specs.Lists.{all, firstOf, ask}
 use Rattle.rules.specs.Octets.{octets}
 use Rattle.rules.specs.Units.{ordered}

@@ -1,8 +1,6 @@
 -- What Get Group Info answers: the payload of its reply.
-use mathlib.Core.List.{List, [], _∷_}
-use Prim.Native.Nat.{ℕ}
-use Rattle.words.specs.declared.Code.{Code}
-use Rattle.words.specs.declared.GroupAddress.{GroupAddress}
+use Rattle.words.specs.Basics.{List, [], _∷_, ℕ}
+use Rattle.rules.specs.Types.{GroupAddress, Code}
 use Rattle.rules.specs.Tables.{Rec}
 use Rattle.rules.specs.Commands.{naming, groupInfo, onOk}
 

@@ -1,18 +1,8 @@
 -- Laws of the host's calls: where a check fails, nothing changes; where none does, the octets written are the call's change.
-use mathlib.Core.Path.{_≡_, sym, _∙_}
-use mathlib.Core.Bool.{Bool, true, false, not, _||_}
-use mathlib.Core.List.{List}
-use Prim.Native.Nat.{ℕ, _%_, _<_}
-use native.Mathlib.Omega.{arith}
-use lib.ListN.{length}
-use borrow.Author.Tests.{eq-eqb, ne-eqb, not-true, not-false}
+use Rattle.words.specs.Basics.{_≡_, sym, _∙_, Bool, true, false, not, _||_, List, ℕ, _%_, _<_, arith, length, not-true, eq-eqb, not-false, ne-eqb}
 use Rattle.words.specs.Outcomes.{numberOf}
-use Rattle.words.specs.declared.DeviceAddress.{DeviceAddress}
-use Rattle.words.specs.declared.Kind.{Kind}
-use Rattle.words.specs.declared.Kind.the-variants.{Devices, Binds, Members}
 use Rattle.words.specs.declared.BindPart.the-variants.{Source, Destination}
-use Rattle.words.specs.declared.Outcome.{Outcome}
-use Rattle.words.specs.declared.Outcome.the-variants.{Done, Unsound, OutOfRange, AlreadyAdmitted, NoFreeRecord, NotAdmitted}
+use Rattle.rules.specs.Types.{DeviceAddress, Kind, Devices, Binds, Members, Outcome, Done, Unsound, OutOfRange, AlreadyAdmitted, NoFreeRecord, NotAdmitted}
 use Rattle.rules.specs.Lists.{ask}
 use Rattle.rules.specs.Octets.{octets}
 use Rattle.rules.specs.Tables.{Rec, records, someFree, matches, addressed, clear, store, wipe, written}

@@ -7,14 +7,12 @@ use layouts::address_octets;
 use words::BindPart;
 use words::DeviceAddress;
 use words::Outcome;
-ghost use mathlib.Core.Path.{_≡_};
-ghost use Prim.Native.Nat.{_%_};
-ghost use lib.ListN.{length};
+ghost use Rattle.words.specs.Basics.{_≡_, _%_, length};
+ghost use Rattle.rules.specs.Types.{Devices, Binds, Members};
 ghost use Rattle.rules.specs.Tables.{wipe, written};
 ghost use Rattle.rules.specs.Layout.{size};
 ghost use Rattle.rules.specs.Frame.{lent, table};
 ghost use Rattle.rules.specs.Host.{hostAnswer, admission, admit, namesDevice, releasing, release};
-ghost use Rattle.words.specs.declared.Kind.the-variants.{Devices, Binds, Members};
 
 // "Admit: 16, 20, 21, 22, else 0.", behind 16. It looks, and writes nothing.
 fn admission(devices: &[u8], address: DeviceAddress, rights: u8, highest: u8) -> Outcome

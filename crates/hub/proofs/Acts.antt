@@ -1,18 +1,9 @@
 -- What the acting parts leave is the message's answer: a refusal, a command that is handled, a list of recipients.
-use mathlib.Core.Path.{_≡_, ap}
-use mathlib.Core.List.{List, [], _∷_}
-use Prim.Native.Nat.{ℕ, _-_}
-use borrow.Author.Tests.{leb-true}
 use borrow.Rule.Slice.PartMut.{midOf}
-use lib.ListN.{length}
+use Rattle.words.specs.Basics.{_≡_, ap, List, [], _∷_, ℕ, _-_, length, leb-true}
 use Rattle.words.specs.Names.{headerLength, longest}
-use Rattle.words.specs.declared.Fields.{Fields}
-use Rattle.words.specs.declared.Reading.{Reading}
-use Rattle.words.specs.declared.Command.{Command}
 use Rattle.words.specs.declared.Destination.{Destination}
-use Rattle.words.specs.declared.Kind.the-variants.{Binds, Members}
-use Rattle.words.specs.declared.Outcome.{Outcome}
-use Rattle.words.specs.declared.Way.the-variants.{Refuse, Serve, Forward}
+use Rattle.rules.specs.Types.{Fields, Command, Binds, Members, Outcome, Refuse, Serve, Forward, Reading}
 use Rattle.rules.specs.Frame.{Lent, tables}
 use Rattle.rules.specs.Message.{fields, payload, reads, reading}
 use Rattle.rules.specs.Recipients.{recipients}

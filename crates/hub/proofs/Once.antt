@@ -1,10 +1,9 @@
 -- No second answer fits the contract of `message`, in the contract's own words: two answers to one call are equal, and leave the same octets.
-use mathlib.Core.Path.{_≡_, sym, _∙_}
 use contract.Lifetimes.{Lfts}
 use borrow.Fn.World
 use borrow.Fn.Kinds as K
 use denote.Triple.Clauses
-use denote.Ref.{now}
+use Rattle.words.specs.Basics.{_≡_, sym, _∙_, now}
 use Rattle.rules.specs.Frame.{lent}
 use Rattle.rules.specs.Calls.{Answer, answer}
 use Rattle.hub.proofs.message

@@ -7,7 +7,7 @@ pub use messages::read;
 use words::Fields;
 use words::Outcome;
 use words::Way;
-ghost use mathlib.Core.Path.{_≡_};
+ghost use Rattle.words.specs.Basics.{_≡_};
 ghost use Rattle.rules.specs.Frame.{lent};
 ghost use Rattle.rules.specs.Calls.{answer, message};
 

@@ -1,11 +1,7 @@
 -- Laws of a group's record that is built over zeros.
-use mathlib.Core.Path.{_≡_}
-use mathlib.Core.List.{List, _∷_}
-use Prim.Native.Nat.{ℕ, zero, suc, _+_, _-_, _/_, _%_, _≤_}
 use native.Mathlib.Nat.{sub-zero, zero-sub}
-use native.Mathlib.Omega.{arith}
-use lib.ListN.{length, drop, replicate}
-use Rattle.words.specs.declared.GroupAddress.{GroupAddress}
+use Rattle.words.specs.Basics.{_≡_, List, _∷_, ℕ, zero, suc, _+_, _-_, _/_, _%_, _≤_, arith, length, drop, replicate}
+use Rattle.rules.specs.Types.{GroupAddress}
 use Rattle.rules.specs.Octets.{octets, over}
 use Rattle.rules.specs.Layout.{groupRecord, longestName}
 

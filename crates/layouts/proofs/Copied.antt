@@ -1,10 +1,5 @@
 -- Laws of a record that is copied whole.
-use mathlib.Core.Path.{_≡_, ap, _∙_}
-use mathlib.Core.List.{List, append-nil}
-use Prim.Native.Nat.{ℕ, _+_, _≤_}
-use native.Mathlib.Omega.{arith}
-use lib.ListN.{length, take, drop}
-use lib.Seq.{take-all, drop-length}
+use Rattle.words.specs.Basics.{_≡_, ap, _∙_, List, append-nil, ℕ, _+_, _≤_, arith, length, take, drop, take-all, drop-length}
 use Rattle.rules.specs.Octets.{over}
 use Rattle.rules.specs.Tables.{Rec}
 use Rattle.rules.proofs.Records.{length-record}

@@ -5,13 +5,11 @@ use words::BindPart;
 use words::DeviceAddress;
 use words::Fields;
 use words::GroupAddress;
-ghost use mathlib.Core.Path.{_≡_};
-ghost use Prim.Native.Nat.{_+_, _≤_};
-ghost use lib.ListN.{length, take, drop};
+ghost use Rattle.words.specs.Basics.{_≡_, _+_, _≤_, length, take, drop};
+ghost use Rattle.rules.specs.Types.{Binds};
 ghost use Rattle.rules.specs.Tables.{matches};
 ghost use Rattle.rules.specs.Layout.{size, partStart, partLength, bindSource, bindSourceUnit, bindFrom, bindRole, bindUid};
 ghost use Rattle.rules.specs.Layout.{toGroup, boundGroup, boundDevice, bindUnit, bindTo};
-ghost use Rattle.words.specs.declared.Kind.the-variants.{Binds};
 
 // Where source, interface and destination stand.
 pub const SOURCE: usize = 0;

@@ -3,11 +3,9 @@ use crate::MEMBER;
 use crate::MEMBER_DEVICE;
 use words::DeviceAddress;
 use words::GroupAddress;
-ghost use mathlib.Core.Path.{_≡_};
-ghost use Prim.Native.Nat.{_+_, _≤_};
-ghost use lib.ListN.{length, take, drop};
+ghost use Rattle.words.specs.Basics.{_≡_, _+_, _≤_, length, take, drop};
+ghost use Rattle.rules.specs.Types.{Members};
 ghost use Rattle.rules.specs.Layout.{size, memberGroup, memberDevice, memberUnit};
-ghost use Rattle.words.specs.declared.Kind.the-variants.{Members};
 
 // A member, copied whole.
 pub fn member_at(members: &[u8], at: usize) -> [u8; 5]

@@ -9,7 +9,7 @@ use crate::MOST_DEVICES;
 use crate::MOST_GROUPS;
 use crate::MOST_MEMBERS;
 use words::Kind;
-ghost use mathlib.Core.Path.{_≡_};
+ghost use Rattle.words.specs.Basics.{_≡_};
 ghost use Rattle.rules.specs.Layout.{size, most, key};
 
 // The octets of a record, how many records there may be, and how many octets must not be there twice: the address in devices and groups, the record in

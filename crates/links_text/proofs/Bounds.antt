@@ -1,17 +1,7 @@
 -- What a message answers is within what it was lent: a reply's length within the reply, three octets a recipient within the list.
-use mathlib.Core.Path.{_≡_, refl, ap}
-use mathlib.Core.Bool.{Bool, true, false, cond}
-use mathlib.Core.List.{List, [], _∷_}
-use Prim.Native.Nat.{ℕ, _*_, _≤_}
-use native.Mathlib.Omega.{arith}
-use lib.Dec.{eqb}
-use lib.ListN.{length, drop, length-append}
+use Rattle.words.specs.Basics.{_≡_, refl, ap, Bool, true, false, cond, List, [], _∷_, ℕ, _*_, _≤_, arith, eqb, length, drop, length-append}
 use Rattle.words.specs.Outcomes.{numberOf, valueOf}
-use Rattle.words.specs.declared.Fields.{Fields}
-use Rattle.words.specs.declared.Command.{Command}
-use Rattle.words.specs.declared.Kind.the-variants.{Binds, Members}
-use Rattle.words.specs.declared.Outcome.{Outcome}
-use Rattle.words.specs.declared.Way.{Way}
+use Rattle.rules.specs.Types.{Fields, Command, Binds, Members, Outcome, Way}
 use Rattle.rules.specs.Octets.{over}
 use Rattle.rules.specs.Units.{unitOctets}
 use Rattle.rules.specs.Frame.{Lent, tables}

@@ -1,18 +1,12 @@
 -- The text for an input is the text of the answer to the tables and the message in it.
-use mathlib.Core.Path.{_≡_, sym, ap, _∙_}
-use mathlib.Core.List.{List}
-use Prim.Native.Nat.{ℕ, _+_, _≤_, _<_}
-use native.Mathlib.Omega.{arith}
-use borrow.Author.Tests.{lt-ltb, le-ltb}
-use lib.ListN.{length, take, drop, replicate, length-drop, length-replicate}
-use lib.Seq.{length-take-le}
+use Rattle.words.specs.Basics.{_≡_, sym, ap, _∙_, List, ℕ, _+_, _<_, _≤_, arith, length, take, drop, replicate, length-drop, length-replicate, length-take-le}
+use Rattle.words.specs.Basics.{lt-ltb, le-ltb}
+use Rattle.rules.specs.Types.{Devices, Binds, Groups, Members, Outcome}
 use Rattle.rules.specs.Octets.{over}
 use Rattle.words.specs.Names.{longest}
-use Rattle.words.specs.declared.Kind.the-variants.{Devices, Binds, Groups, Members}
 use Rattle.rules.specs.Layout.{full}
 use Rattle.rules.specs.Frame.{Lent, lent}
 use Rattle.rules.specs.Calls.{Answer, answer, message}
-use Rattle.words.specs.declared.Outcome.{Outcome}
 use Rattle.units.proofs.Listing.{over-whole}
 use Rattle.report.specs.Text.{answerText, shortText}
 use Rattle.links_text.specs.Printing.{atBinds, atGroups, atMembers, allTables, listLength, given, answered, printed}

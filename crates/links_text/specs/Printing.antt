@@ -1,11 +1,7 @@
 -- The text of `links` (document 01, Rows to try): the four tables at full size and then the message, answered with a reply and a list of zeros.
-use mathlib.Core.Bool.{cond}
-use mathlib.Core.List.{List}
-use Prim.Native.Nat.{ℕ, _+_, _*_}
-use lib.Dec.{ltb}
-use lib.ListN.{length, take, drop, replicate}
+use Rattle.words.specs.Basics.{cond, List, ℕ, _+_, _*_, ltb, length, take, drop, replicate}
 use Rattle.words.specs.Names.{longest}
-use Rattle.words.specs.declared.Kind.the-variants.{Devices, Binds, Groups, Members}
+use Rattle.rules.specs.Types.{Devices, Binds, Groups, Members}
 use Rattle.rules.specs.Layout.{most, full}
 use Rattle.rules.specs.Frame.{Lent, lent}
 use Rattle.rules.specs.Calls.{Answer, message}

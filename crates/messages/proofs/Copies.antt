@@ -1,17 +1,8 @@
 -- Laws of copies: what copying answers, by the number of the outcome of reading and whether the copy fits.
-use mathlib.Core.Path.{_≡_, sym, _∙_}
-use mathlib.Core.Bool.{Bool, true, false, not}
-use mathlib.Core.List.{List, [], _∷_, _++_}
-use Prim.Native.Nat.{ℕ, _≤_}
-use native.Mathlib.Omega.{arith}
-use lib.ListN.{length}
-use lib.Seq.{sets}
-use borrow.Author.Tests.{leb-true, not-true, not-false}
+use Rattle.words.specs.Basics.{_≡_, sym, _∙_, Bool, true, false, not, List, [], _∷_, _++_, ℕ, _≤_, arith, length, sets, not-true, not-false, leb-true}
 use Rattle.words.specs.Names.{headerLength}
 use Rattle.words.specs.Outcomes.{numberOf}
-use Rattle.words.specs.declared.DeviceAddress.{DeviceAddress}
-use Rattle.words.specs.declared.Outcome.the-variants.{Done, NoCopy}
-use Rattle.words.specs.declared.Reading.{Reading}
+use Rattle.rules.specs.Types.{DeviceAddress, Done, NoCopy, Reading}
 use Rattle.rules.specs.Octets.{octets, over}
 use Rattle.rules.specs.Message.{reading}
 use Rattle.rules.specs.Copy.{copied, copyFits, copyAnswer, copy}

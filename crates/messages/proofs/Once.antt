@@ -1,10 +1,9 @@
 -- No second answer fits the contracts of `read` and `copy`, in the contracts' own words: two answers to one call are equal, and leave the same octets.
-use mathlib.Core.Path.{_≡_, sym, _∙_}
 use contract.Lifetimes.{Lfts}
 use borrow.Fn.World
 use borrow.Fn.Kinds as K
 use denote.Triple.Clauses
-use denote.Ref.{now}
+use Rattle.words.specs.Basics.{_≡_, sym, _∙_, now}
 use Rattle.rules.specs.Copy.{copyAnswer}
 use Rattle.messages.proofs.read
 use Rattle.messages.proofs.read.Kinds as read-kinds

@@ -1,17 +1,8 @@
 -- Laws of reading: what a caller knows from the number of the outcome, 0 or another.
-use mathlib.Core.Path.{_≡_, refl, ap, _∙_}
-use mathlib.Core.Bool.{Bool, true, false}
-use mathlib.Core.List.{List}
-use Prim.Native.Nat.{ℕ, _-_, _≤_}
-use lib.Dec.{eqb, leb}
-use lib.ListN.{length}
-use borrow.Author.Tests.{leb-true, eq-eqb, ne-eqb}
+use Rattle.words.specs.Basics.{_≡_, refl, ap, _∙_, Bool, true, false, List, ℕ, _-_, _≤_, eqb, leb, length, eq-eqb, ne-eqb, leb-true}
 use Rattle.words.specs.Names.{noFields, headerLength, commandType, lastType}
 use Rattle.words.specs.Outcomes.{numberOf}
-use Rattle.words.specs.declared.Fields.{Fields}
-use Rattle.words.specs.declared.Outcome.{Outcome}
-use Rattle.words.specs.declared.Outcome.the-variants.{Done, WrongLength, WrongDataLength, WrongType}
-use Rattle.words.specs.declared.Reading.{Reading}
+use Rattle.rules.specs.Types.{Fields, Outcome, Done, WrongLength, WrongDataLength, WrongType, Reading}
 use Rattle.rules.specs.Lists.{ask, _&_}
 use Rattle.rules.specs.Message.{fields, lengthFits, dataLengthFits, typeFits, reads, readingOf, reading}
 use Rattle.rules.proofs.Lists.{split, ask-pass, ask-fail}

@@ -1,13 +1,10 @@
 -- Laws of replies: the ranges of fields, and octets written over others in parts, a payload over the part behind the header and a header over the front.
-use mathlib.Core.Path.{_≡_, refl, sym, ap, _∙_}
-use mathlib.Core.List.{List, [], _∷_, _++_, append-assoc, append-nil}
-use Prim.Native.Nat.{ℕ, suc, _+_, _-_, _≤_, _<_}
-use native.Mathlib.Omega.{arith}
-use lib.ListN.{length, take, drop, set, length-append, length-drop, length-set, take-append-drop}
-use lib.Seq.{take-all, drop-append-le, drop-at, drop-drop, drop-length, length-take-le, sets, set-append-left}
+use lib.Seq.{drop-append-le, set-append-left}
 use borrow.Rule.Slice.PartMut.{midOf, putMid}
+use Rattle.words.specs.Basics.{_≡_, refl, sym, ap, _∙_, List, [], _∷_, _++_, append-nil, append-assoc, ℕ, suc, _+_, _-_, _<_, _≤_, arith, length, take, drop}
+use Rattle.words.specs.Basics.{set, length-drop, length-append, length-set, take-append-drop, sets, length-take-le, take-all, drop-at, drop-length, drop-drop}
 use Rattle.words.specs.Names.{headerLength}
-use Rattle.words.specs.declared.Fields.{Fields}
+use Rattle.rules.specs.Types.{Fields}
 use Rattle.rules.specs.Octets.{over, flag, number}
 use Rattle.rules.specs.Message.{fields, header, answering, reply}
 use Rattle.rules.proofs.RoundTrip.{header-length}

@@ -1,6 +1,6 @@
 -- What the writer of a header asks of what it is given.
-use Prim.Native.Nat.{_<_}
-use Rattle.words.specs.declared.Fields.{Fields}
+use Rattle.words.specs.Basics.{_<_}
+use Rattle.rules.specs.Types.{Fields}
 
 -- fields that a header has room for (document 01, The message): flags of one bit, addresses and UIDs of fifteen
 pub record Ranged (f : Fields) : Type 0 where

@@ -5,11 +5,7 @@ use words::Fields;
 use words::GroupAddress;
 use words::Outcome;
 use words::Reading;
-ghost use mathlib.Core.Path.{_≡_};
-ghost use mathlib.Core.List.{[], _∷_, _++_};
-ghost use Prim.Native.Nat.{_+_, _-_, _≤_};
-ghost use lib.Dec.{eqb, leb};
-ghost use lib.ListN.{length};
+ghost use Rattle.words.specs.Basics.{_≡_, [], _∷_, _++_, _+_, _-_, _≤_, eqb, leb, length};
 ghost use Rattle.words.specs.Names.{noFields, headerLength, longest, commandType, lastType};
 ghost use Rattle.rules.specs.Lists.{_&_};
 ghost use Rattle.rules.specs.Octets.{octets, over};
@@ -107,7 +103,7 @@ pub fn destination(f: Fields) -> Destination
         return Destination::Concentrator;
     }
     if (number == DeviceAddress::BIND.0) & (unit == DeviceAddress::ANY_UNIT) {
-        return Destination::Binds;
+        return Destination::BindAddress;
     }
     Destination::Unit(DeviceAddress(number), unit)
 }

@@ -1,16 +1,10 @@
 -- Runs of octets: what the loops that compare, test, write and fill know at each turn. A loop's invariant is a record, with a lemma for its start,
 -- a turn and its end; it says that what is left to do gives the answer.
-use mathlib.Core.Path.{_≡_, refl, sym, _∙_}
-use mathlib.Core.Bool.{true, false, _&&_}
-use mathlib.Core.List.{List, [], _∷_, _++_}
-use Prim.Native.Nat.{ℕ, suc, _+_, _-_, _≤_, _<_}
 use native.Mathlib.Nat.{add-zero, zero-add}
 use native.Mathlib.Numerals.{add-one}
-use native.Mathlib.Omega.{arith}
-use borrow.Author.Tests.{eq-eqb, ne-eqb}
-use lib.Dec.{eqb}
-use lib.ListN.{length, take, drop, getD, set, replicate, length-set, length-replicate, getD-replicate}
-use lib.Seq.{drop-cons, drop-length, sets, sets-eq}
+use lib.ListN.{getD-replicate}
+use Rattle.words.specs.Basics.{_≡_, refl, sym, _∙_, true, false, _&&_, List, [], _∷_, _++_, ℕ, suc, _+_, _-_, _<_, _≤_, arith, eqb, length, take, drop}
+use Rattle.words.specs.Basics.{replicate, getD, set, length-replicate, length-set, sets, drop-cons, drop-length, sets-eq, eq-eqb, ne-eqb}
 use Rattle.rules.specs.Lists.{all}
 use Rattle.rules.specs.Octets.{starts, over}
 

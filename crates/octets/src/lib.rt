@@ -1,9 +1,5 @@
 // Octets and 16-bit words. A word's top bit is a flag and the rest a number (document 01, Tables); runs of octets are compared, tested, written and filled.
-ghost use mathlib.Core.Path.{_≡_};
-ghost use Prim.Native.Nat.{_+_, _*_, _/_, _%_, _^_, _<_, _≤_};
-ghost use lib.Dec.{eqb};
-ghost use lib.ListN.{length, take, drop, replicate};
-ghost use lib.Seq.{sets};
+ghost use Rattle.words.specs.Basics.{_≡_, _+_, _*_, _/_, _%_, _^_, _<_, _≤_, eqb, length, take, drop, replicate, sets};
 ghost use Rattle.rules.specs.Lists.{all};
 ghost use Rattle.rules.specs.Octets.{word, starts, over};
 

@@ -1,14 +1,8 @@
 -- Payloads octet by octet.
-use mathlib.Core.Path.{_≡_, refl, sym, ap, _∙_}
-use mathlib.Core.List.{List, [], _∷_, _++_}
-use Prim.Native.Nat.{ℕ, zero, suc, _+_, _*_, _%_, _≤_, _<_}
-use native.Mathlib.Omega.{arith}
-use lib.ListN.{length, getD, set, take, drop, drop-of-length-le}
-use lib.Seq.{drop-cons, take-append-seam}
-use mathlib.Core.Bool.{Bool, cond}
-use Rattle.words.specs.declared.Command.{Command}
-use Rattle.words.specs.declared.Decoded.{Decoded}
-use Rattle.words.specs.declared.Decoded.the-variants.{Is}
+use lib.Seq.{take-append-seam}
+use Rattle.words.specs.Basics.{_≡_, refl, sym, ap, _∙_, Bool, cond, List, [], _∷_, _++_, ℕ, zero, suc, _+_, _*_, _%_, _<_, _≤_, arith, length, take, drop, getD}
+use Rattle.words.specs.Basics.{set, drop-of-length-le, drop-cons}
+use Rattle.rules.specs.Types.{Command, Decoded, Is}
 use Rattle.rules.specs.Octets.{octet, word, octets, ignoreTop, over}
 use Rattle.rules.specs.Payloads.{bindOf, memberOf, groupNamed}
 use Rattle.words.specs.Names.{group}

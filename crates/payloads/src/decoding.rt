@@ -4,10 +4,8 @@ use words::BindPart;
 use words::Command;
 use words::Decoded;
 use words::Fields;
-ghost use mathlib.Core.Path.{_≡_};
-ghost use mathlib.Core.Bool.{cond};
-ghost use Rattle.words.specs.declared.Decoded.the-variants.{Is};
-ghost use Rattle.words.specs.declared.Command.the-variants.{CreateGroup};
+ghost use Rattle.words.specs.Basics.{_≡_, cond};
+ghost use Rattle.rules.specs.Types.{CreateGroup, Is};
 ghost use Rattle.rules.specs.Payloads.{bindCommand, groupCommand, command};
 ghost use Rattle.rules.specs.Commands.{row};
 

@@ -1,9 +1,7 @@
 // What a payload says (document 01, Tables): the top bit of a source, a group's or a member's address is ignored, and stored as 0.
 use words::GroupAddress;
-ghost use mathlib.Core.Path.{_≡_};
-ghost use Prim.Native.Nat.{_≤_, _<_};
-ghost use lib.ListN.{length, take};
-ghost use Rattle.words.specs.declared.Kind.the-variants.{Binds, Members};
+ghost use Rattle.words.specs.Basics.{_≡_, _<_, _≤_, length, take};
+ghost use Rattle.rules.specs.Types.{Binds, Members};
 ghost use Rattle.rules.specs.Octets.{ignoreTop};
 ghost use Rattle.rules.specs.Layout.{size, addressLength};
 ghost use Rattle.rules.specs.Payloads.{bindOf, memberOf, groupNamed};

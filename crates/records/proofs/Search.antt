@@ -1,10 +1,5 @@
 -- Laws of a search of a table's used records.
-use mathlib.Core.Path.{_≡_, refl, _∙_}
-use mathlib.Core.Bool.{Bool, true, false, cond, not, _&&_, _||_}
-use mathlib.Core.List.{List, [], _∷_}
-use Prim.Native.Nat.{ℕ, _+_, _-_, _≤_, _<_}
-use native.Mathlib.Omega.{arith}
-use lib.ListN.{length, take, drop}
+use Rattle.words.specs.Basics.{_≡_, refl, _∙_, Bool, true, false, cond, not, _&&_, _||_, List, [], _∷_, ℕ, _+_, _-_, _<_, _≤_, arith, length, take, drop}
 use Rattle.rules.specs.Lists.{_&_, any, keep, firstOf}
 use Rattle.rules.specs.Tables.{Rec, records, free?, used}
 use Rattle.rules.proofs.Records.{records-at, records-end, records-all}

@@ -1,7 +1,5 @@
 -- What a search asks of one record, and where it ends.
-use mathlib.Core.Bool.{Bool, cond, not, _&&_}
-use mathlib.Core.List.{List, [], _∷_}
-use Prim.Native.Nat.{ℕ, _+_}
+use Rattle.words.specs.Basics.{Bool, cond, not, _&&_, List, [], _∷_, ℕ, _+_}
 use Rattle.rules.specs.Tables.{Rec, free?}
 use Rattle.records.specs.declared.Found.{Found}
 use Rattle.records.specs.declared.Found.the-variants.{At, Nothing}

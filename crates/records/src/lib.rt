@@ -1,7 +1,5 @@
 // Records of one size, one after the other (document 01, Tables): found, added and removed.
-ghost use mathlib.Core.Path.{_≡_};
-ghost use Prim.Native.Nat.{_+_, _%_, _<_, _≤_};
-ghost use lib.ListN.{length, take, drop};
+ghost use Rattle.words.specs.Basics.{_≡_, _+_, _%_, _<_, _≤_, length, take, drop};
 ghost use Rattle.rules.specs.Lists.{any};
 ghost use Rattle.rules.specs.Tables.{records, free?, used, someFree, matches, written, store, wipe};
 ghost use Rattle.records.specs.Search.{passes, foundAt};

@@ -1,12 +1,6 @@
 -- A number of one, two and three decimal digits, and the first line, which holds two of them.
-use mathlib.Core.Path.{_≡_, refl}
-use mathlib.Core.Bool.{Bool, true, false}
-use mathlib.Core.List.{[], _∷_}
-use Prim.Native.Nat.{ℕ, _/_, _%_, _≤_, _<_}
-use native.Mathlib.Omega.{arith}
-use borrow.Author.Tests.{lt-ltb, le-ltb, ltb-true, ltb-false}
-use lib.Dec.{ltb}
-use lib.ListN.{length, length-append}
+use Rattle.words.specs.Basics.{_≡_, refl, Bool, true, false, [], _∷_, ℕ, _/_, _%_, _<_, _≤_, arith, ltb, length, length-append, lt-ltb, le-ltb, ltb-true}
+use Rattle.words.specs.Basics.{ltb-false}
 use Rattle.report.specs.Text.{digit, decimal, firstLine}
 
 module _ (n : ℕ) where

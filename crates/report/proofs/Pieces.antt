@@ -1,12 +1,8 @@
 -- Pieces written one behind the other are one piece. A loop's invariant says that what is left to write gives the whole.
-use mathlib.Core.Path.{_≡_, refl, ap, _∙_}
-use mathlib.Core.List.{List, [], _∷_, _++_, flatMap}
-use Prim.Native.Nat.{ℕ, zero, suc, _+_, _-_, _*_, _≤_, _<_}
 use native.Mathlib.Nat.{add-zero}
 use native.Mathlib.Numerals.{add-one}
-use native.Mathlib.Omega.{arith}
-use lib.ListN.{length, drop, getD, length-append, drop-of-length-le}
-use lib.Seq.{sets, length-sets, drop-cons, getD-drop, drop-drop}
+use Rattle.words.specs.Basics.{_≡_, refl, ap, _∙_, List, [], _∷_, _++_, flatMap, ℕ, zero, suc, _+_, _-_, _*_, _<_, _≤_, arith, length, drop, getD}
+use Rattle.words.specs.Basics.{length-append, drop-of-length-le, sets, drop-cons, drop-drop, getD-drop, length-sets}
 use Rattle.rules.specs.Octets.{over}
 use Rattle.octets.proofs.Runs.{sets-over}
 use Rattle.report.specs.Text.{hexOctet, recipientLine, recipientLines, Wrote, Printed}

@@ -1,9 +1,6 @@
 -- Texts as document 01 gives them, "Rows to try": first the sample of `links`, whole.
-use mathlib.Core.Path.{_≡_, refl}
-use mathlib.Core.List.{List, [], _∷_, flatMap}
-use Prim.Native.Nat.{ℕ}
-use Rattle.words.specs.declared.Outcome.{Outcome}
-use Rattle.words.specs.declared.Outcome.the-variants.{Done, Forwarded, Nobody, NotAdmitted}
+use Rattle.words.specs.Basics.{_≡_, refl, List, [], _∷_, flatMap, ℕ}
+use Rattle.rules.specs.Types.{Outcome, Done, Forwarded, Nobody, NotAdmitted}
 use Rattle.report.specs.Text.{ascii, digit, decimal, firstLine, hexLine, recipientLines, valueIf, answerText}
 
 pub record Row : Type 0 where

@@ -1,16 +1,10 @@
 -- The text that the program `links` prints (document 01, Rows to try), as ASCII octets.
-use mathlib.Core.Path.{_≡_}
-use mathlib.Core.Bool.{cond}
-use mathlib.Core.List.{List, [], _∷_, _++_, flatMap}
-use Prim.Native.Nat.{ℕ, zero, suc, _+_, _-_, _*_, _/_, _%_, _≤_}
 use Prim.Native.Char.{code}
 use Prim.Native.String.{String, [] as empty, _∷_ as _then_}
-use lib.Dec.{eqb, ltb}
-use lib.ListN.{length, take, drop}
-use lib.Seq.{sets}
+use Rattle.words.specs.Basics.{_≡_, cond, List, [], _∷_, _++_, flatMap, ℕ, zero, suc, _+_, _-_, _*_, _/_, _%_, _≤_, eqb, ltb, length, take, drop, sets}
+use Rattle.rules.specs.Types.{Outcome}
 use Rattle.rules.specs.Octets.{octet, over}
 use Rattle.words.specs.Outcomes.{numberOf, valueOf}
-use Rattle.words.specs.declared.Outcome.{Outcome}
 
 -- a text's octets
 abbrev pub ascii : String → List ℕ

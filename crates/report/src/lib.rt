@@ -1,9 +1,6 @@
 // The text that programs print, written piece by piece into a lent buffer: each writer starts at a place and returns the place behind what it wrote.
 use words::Outcome;
-ghost use mathlib.Core.Path.{_≡_};
-ghost use mathlib.Core.List.{flatMap};
-ghost use Prim.Native.Nat.{_+_, _*_, _<_, _≤_};
-ghost use lib.ListN.{length};
+ghost use Rattle.words.specs.Basics.{_≡_, flatMap, _+_, _*_, _<_, _≤_, length};
 ghost use Rattle.report.specs.Text.{digit, hexOctet, decimal, field, recipientLine, recipientLines, hexLine, firstLine};
 ghost use Rattle.report.specs.Text.{valueIf, answerText, shortText, Wrote, Printed, Room};
 

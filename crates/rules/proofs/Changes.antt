@@ -1,14 +1,7 @@
 -- Laws of the tables: what an addition and a removal do to the used records, and that the octets written read back as the records changed.
-use mathlib.Core.Path.{_≡_, refl, sym, ap, _∙_}
-use mathlib.Core.Bool.{Bool, true, false, false≢true, cond, not, _&&_, _||_}
-use mathlib.Core.List.{List, [], _∷_, map}
-use Prim.Native.Nat.{ℕ, zero, suc, _*_, _/_, _%_, _≤_, _<_}
 use native.Mathlib.Nat.{div-add-mod', div-mul-le-self}
-use native.Mathlib.Omega.{arith}
-use borrow.Author.Tests.{eqb-true, eq-eqb}
-use lib.Dec.{leb}
-use lib.ListN.{length, take, drop, length-map, length-drop}
-use lib.Seq.{length-take-le}
+use Rattle.words.specs.Basics.{_≡_, refl, sym, ap, _∙_, Bool, true, false, cond, not, _&&_, _||_, false≢true, List, [], _∷_, map, ℕ, zero, suc, _*_, _/_, _%_}
+use Rattle.words.specs.Basics.{_<_, _≤_, arith, leb, length, take, drop, length-drop, length-map, length-take-le, eq-eqb, eqb-true}
 use Rattle.rules.specs.Lists.{tick, count, any, all}
 use Rattle.rules.specs.Octets.{octetString}
 use Rattle.rules.specs.Tables.{Rec, cut, records, bytes, free?, blank, used, someFree, put, clear, Change, none, store, wipe, change, written}

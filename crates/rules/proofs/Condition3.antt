@@ -1,18 +1,8 @@
 -- Condition 3: from free tables of sizes allowed, after any run of calls, refused ones included, a well-formed request to the bind address goes to
 -- exactly the units linked to its sender by history, and Get Group Info counts the members that stand by history.
-use mathlib.Core.Path.{_≡_, refl, sym, ap, _∙_}
-use mathlib.Core.Bool.{true, false≢true}
-use mathlib.Core.List.{List, _∷_, _++_}
-use Prim.Native.Nat.{ℕ, _+_}
-use borrow.Author.Tests.{eqb-true}
-use lib.ListN.{length, drop}
+use Rattle.words.specs.Basics.{_≡_, refl, sym, ap, _∙_, true, false≢true, List, _∷_, _++_, ℕ, _+_, length, drop, eqb-true}
 use Rattle.words.specs.Names.{code, ok, headerLength}
-use Rattle.words.specs.declared.Fields.{Fields}
-use Rattle.words.specs.declared.DeviceAddress.{DeviceAddress}
-use Rattle.words.specs.declared.Command.the-variants.{GetGroupInfo}
-use Rattle.words.specs.declared.Decoded.the-variants.{Is}
-use Rattle.words.specs.declared.Destination.the-variants.{Binds}
-use Rattle.words.specs.declared.Kind.the-variants.{Devices, Groups, Binds as bind-table, Members}
+use Rattle.rules.specs.Types.{DeviceAddress, Fields, BindAddress, GetGroupInfo, Is, Devices, Binds, Groups, Members}
 use Rattle.rules.specs.Lists.{ask, _&_}
 use Rattle.rules.specs.Octets.{octet, word, octets, over}
 use Rattle.rules.specs.Frame.{Lent, tables}
@@ -43,7 +33,7 @@ module _ (L₀ L : Lent) (h : List Event) (k : Held L₀ L h) where
   -- room is a matter of lengths, and these stay
   room-kept : (r l : List ℕ) → roomy (L₀ .binds) (L₀ .members) r l ≡ true → roomy (L .binds) (L .members) r l ≡ true
   unfolding roomy
-  room-kept r l e = rw (k .lengths bind-table, k .lengths Members) e
+  room-kept r l e = rw (k .lengths Binds, k .lengths Members) e
 
   delivered : (m r l us : List ℕ) → Request h m → roomy (L₀ .binds) (L₀ .members) r l ≡ true → Exactly h (fields m) us → message L m r l ≡ forwarded us L r l
   unfolding message follow way reads wayOn ask wayTo _&_
@@ -83,7 +73,7 @@ condition3 L f cs o =
       sound = k .sane .sound;
       delivered = delivered L (after L cs) (history L cs) k;
       linked-units = λ m. (
-        recipients (tables (after L cs) bind-table) (tables (after L cs) Members) Binds m,
+        recipients (tables (after L cs) Binds) (tables (after L cs) Members) BindAddress m,
         exactly-recipients L (after L cs) (history L cs) k m,
       );
       counts = counted-right L (after L cs) (history L cs) k;

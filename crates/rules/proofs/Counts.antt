@@ -1,16 +1,9 @@
 -- The number of members that Get Group Info gives (document 01, Commands and codes): each member is one unit, so none is lost to the order.
-use mathlib.Core.Path.{_≡_, refl, sym, _∙_}
-use mathlib.Core.Bool.{Bool, true, false, cond, not, _&&_, _||_}
-use mathlib.Core.List.{List, [], _∷_, _++_, map, append-assoc}
-use Prim.Native.Nat.{ℕ, zero, suc, _+_, _*_, _/_, _%_, _≤_, _<_}
-use native.Mathlib.Omega.{arith}
-use borrow.Author.Tests.{leb-true, eqb-true, eq-eqb, not-true}
-use lib.Dec.{eqb}
-use lib.ListN.{length, getD, take, length-take, length-drop, length-map}
 use lib.Seq.{getD-append-add, ext-getD}
+use Rattle.words.specs.Basics.{_≡_, refl, sym, _∙_, Bool, true, false, cond, not, _&&_, _||_, List, [], _∷_, _++_, map, append-assoc, ℕ, zero, suc, _+_, _*_}
+use Rattle.words.specs.Basics.{_/_, _%_, _<_, _≤_, arith, eqb, length, take, getD, length-drop, length-map, length-take, not-true, eq-eqb, eqb-true, leb-true}
 use Rattle.words.specs.Names.{ok}
-use Rattle.words.specs.declared.GroupAddress.{GroupAddress}
-use Rattle.words.specs.declared.Kind.the-variants.{Groups, Members}
+use Rattle.rules.specs.Types.{GroupAddress, Groups, Members}
 use Rattle.rules.specs.Lists.{_&_, count, any, all, keep, has, firstOf}
 use Rattle.rules.specs.Octets.{octet, word, octets, starts}
 use Rattle.rules.specs.Units.{unitNumber, unitAt, unitOctets, ordered, once}

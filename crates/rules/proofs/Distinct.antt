@@ -1,12 +1,6 @@
 -- "no address is there twice in devices or groups, no used record twice in binds or members" (document 01, Tables) is kept by every change.
-use mathlib.Core.Path.{_≡_, refl, sym, _∙_}
-use mathlib.Core.Bool.{Bool, true, false, false≢true, cond, not, _||_}
-use mathlib.Core.List.{List, [], _∷_}
-use Prim.Native.Nat.{ℕ, zero, suc}
-use native.Mathlib.Omega.{arith}
-use borrow.Author.Tests.{eqb-true, eq-eqb, not-true}
-use lib.Dec.{eqb}
-use lib.ListN.{length, take}
+use Rattle.words.specs.Basics.{_≡_, refl, sym, _∙_, Bool, true, false, cond, not, _||_, false≢true, List, [], _∷_, ℕ, zero, suc, arith, eqb, length, take}
+use Rattle.words.specs.Basics.{not-true, eq-eqb, eqb-true}
 use Rattle.rules.specs.Lists.{any, all, keep}
 use Rattle.rules.specs.Octets.{starts}
 use Rattle.rules.specs.Tables.{Rec, free?, blank, used, someFree, matches, put, clear, Change, none, store, wipe, change}
@@ -71,7 +65,8 @@ module _ (k n : ℕ) where
     where
       fewer : any (matches 0 (take n x)) (used t) ≡ false → any (matches 0 (take n x)) (used (clear q t)) ≡ false
       fewer h = any-clear (matches 0 (take n x)) q t
-          ∙ none-weaken (λ r. true) (matches 0 (take n x)) _ (λ r e i. and-parts (not (q r)) (matches 0 (take n x) r) i .1) (used t) (all-of _ (λ r. refl) (used t)) h
+          ∙ none-weaken (λ r. true) (matches 0 (take n x)) _ (λ r e i. and-parts (not (q r)) (matches 0 (take n x) r) i .1) (used t)
+          (all-of _ (λ r. refl) (used t)) h
 
       step : (b c : Bool) → free? x ≡ c → (c || not (any (matches 0 (take n x)) (used t))) ≡ true → distinct n (clear q t) ≡ true
           → distinct n (cond b (blank x) x ∷ clear q t) ≡ true

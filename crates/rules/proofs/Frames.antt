@@ -1,14 +1,7 @@
 -- Laws of the frame of all tables: what holds of each kind is said once. Which tables there are is used in this file alone.
-use mathlib.Core.Path.{_≡_, refl, sym, ap, fun-ext, _∙_}
-use mathlib.Core.Bool.{Bool, true, false, cond}
-use mathlib.Core.List.{List}
-use Prim.Native.Nat.{ℕ, _≤_, _<_}
-use native.Mathlib.Omega.{arith}
-use borrow.Author.Tests.{eqb-true, leb-true}
-use lib.Dec.{eqb, leb}
-use lib.ListN.{length, getD}
-use Rattle.words.specs.declared.Kind.{Kind}
-use Rattle.words.specs.declared.Kind.the-variants.{Devices, Binds, Groups, Members}
+use mathlib.Core.Path.{fun-ext}
+use Rattle.words.specs.Basics.{_≡_, refl, sym, ap, _∙_, Bool, true, false, cond, List, ℕ, _<_, _≤_, arith, eqb, leb, length, getD, eqb-true, leb-true}
+use Rattle.rules.specs.Types.{Kind, Devices, Binds, Groups, Members}
 use Rattle.rules.specs.Lists.{all, _&_}
 use Rattle.rules.specs.Tables.{Change, none, written}
 use Rattle.rules.specs.Layout.{size, key, full}

@@ -1,12 +1,6 @@
 -- "The address is the smallest from 0x0001 not in use" (document 01, Commands and codes): it is not in use, for there are more candidates than records.
-use mathlib.Core.Path.{_≡_, refl, sym, _∙_}
-use mathlib.Core.Bool.{Bool, true, false, false≢true, cond, not, _&&_}
-use mathlib.Core.List.{List}
-use Prim.Native.Nat.{ℕ, zero, suc, _+_, _≤_, _<_}
-use native.Mathlib.Omega.{arith}
-use borrow.Author.Tests.{le-leb, ltb-true, lt-ltb}
-use lib.Dec.{leb, ltb}
-use lib.ListN.{length}
+use Rattle.words.specs.Basics.{_≡_, refl, sym, _∙_, Bool, true, false, cond, not, _&&_, false≢true, List, ℕ, zero, suc, _+_, _<_, _≤_, arith, leb, ltb, length}
+use Rattle.words.specs.Basics.{le-leb, lt-ltb, ltb-true}
 use Rattle.words.specs.Names.{group}
 use Rattle.rules.specs.Lists.{count, any}
 use Rattle.rules.specs.Octets.{word}

@@ -1,20 +1,9 @@
 -- Every command answered 0x00 changes the tables in order, and changes them as the history's entries say.
-use mathlib.Core.Path.{_≡_, refl, sym, ap, _∙_}
-use mathlib.Core.Bool.{Bool, true, false, false≢true, cond, not}
-use mathlib.Core.List.{List}
-use Prim.Native.Nat.{ℕ, _+_, _*_, _≤_, _<_}
-use native.Mathlib.Omega.{arith}
-use borrow.Author.Tests.{leb-true, eqb-true, eq-eqb, not-true}
-use lib.ListN.{length, take}
-use lib.Seq.{take-all}
+use Rattle.words.specs.Basics.{_≡_, refl, sym, ap, _∙_, Bool, true, false, cond, not, false≢true, List, ℕ, _+_, _*_, _<_, _≤_, arith, length, take, take-all}
+use Rattle.words.specs.Basics.{not-true, eq-eqb, eqb-true, leb-true}
 use Rattle.words.specs.Names.{code, ok, notAuthorized, invalidArgument, notEnoughResources}
-use Rattle.words.specs.declared.Code.{Code}
-use Rattle.words.specs.declared.DeviceAddress.{DeviceAddress}
-use Rattle.words.specs.declared.GroupAddress.{GroupAddress}
-use Rattle.words.specs.declared.Command.{Command}
-use Rattle.words.specs.declared.Command.the-variants.{AddBind, RemoveBinds, CreateGroup, DeleteGroup, AddToGroup, RemoveFromGroup, GetGroupInfo}
-use Rattle.words.specs.declared.Kind.{Kind}
-use Rattle.words.specs.declared.Kind.the-variants.{Devices, Binds, Groups, Members}
+use Rattle.rules.specs.Types.{DeviceAddress, GroupAddress, Code, Command, AddBind, RemoveBinds, CreateGroup, DeleteGroup, AddToGroup, RemoveFromGroup}
+use Rattle.rules.specs.Types.{GetGroupInfo, Kind, Devices, Binds, Groups, Members}
 use Rattle.rules.specs.Lists.{any, ask}
 use Rattle.rules.specs.Octets.{octet, octets, octetString}
 use Rattle.rules.specs.Tables.{Rec, used, someFree, matches, addressed, Change, none, store, wipe}

@@ -1,15 +1,7 @@
 -- The host calls: admit and release, where they do something, change the tables in order and as the history's entries say.
-use mathlib.Core.Path.{_≡_, refl, _∙_}
-use mathlib.Core.Bool.{Bool, true, false, cond, not, _||_}
-use Prim.Native.Nat.{ℕ, _<_}
-use native.Mathlib.Omega.{arith}
-use borrow.Author.Tests.{eq-eqb, not-true}
-use lib.Dec.{eqb}
+use Rattle.words.specs.Basics.{_≡_, refl, _∙_, Bool, true, false, cond, not, _||_, ℕ, _<_, arith, eqb, not-true, eq-eqb}
 use Rattle.words.specs.Outcomes.{numberOf}
-use Rattle.words.specs.declared.DeviceAddress.{DeviceAddress}
-use Rattle.words.specs.declared.Outcome.{Outcome}
-use Rattle.words.specs.declared.Outcome.the-variants.{Done, Unsound, OutOfRange, AlreadyAdmitted, NoFreeRecord, NotAdmitted}
-use Rattle.words.specs.declared.Kind.the-variants.{Devices, Binds, Members}
+use Rattle.rules.specs.Types.{DeviceAddress, Devices, Binds, Members, Outcome, Done, Unsound, OutOfRange, AlreadyAdmitted, NoFreeRecord, NotAdmitted}
 use Rattle.rules.specs.Lists.{ask, _&_}
 use Rattle.rules.specs.Octets.{octets}
 use Rattle.rules.specs.Tables.{Rec, used, someFree, addressed, none, wipe, change}

@@ -1,15 +1,6 @@
 -- Soundness (document 01, Tables) and "every element of a table is an octet" are kept by every change that is in order.
-use mathlib.Core.Path.{_≡_, refl, ap, _∙_}
-use mathlib.Core.Bool.{Bool, true, false, cond, not}
-use mathlib.Core.List.{List}
-use Prim.Native.Nat.{ℕ, _%_}
-use borrow.Author.Tests.{eqb-true}
-use lib.Dec.{eqb}
-use lib.ListN.{length}
-use Rattle.words.specs.declared.DeviceAddress.{DeviceAddress}
-use Rattle.words.specs.declared.GroupAddress.{GroupAddress}
-use Rattle.words.specs.declared.Kind.{Kind}
-use Rattle.words.specs.declared.Kind.the-variants.{Devices, Binds, Groups, Members}
+use Rattle.words.specs.Basics.{_≡_, refl, ap, _∙_, Bool, true, false, cond, not, List, ℕ, _%_, eqb, length, eqb-true}
+use Rattle.rules.specs.Types.{DeviceAddress, GroupAddress, Kind, Devices, Binds, Groups, Members}
 use Rattle.rules.specs.Lists.{any, all, _&_}
 use Rattle.rules.specs.Octets.{octetString}
 use Rattle.rules.specs.Tables.{Rec, records, used, addressed, Change, none, wipe, change}

@@ -1,15 +1,6 @@
 -- What the tables answer and what the history says: the recipients are the linked units, and the units that exist are the existing ones.
-use mathlib.Core.Path.{_≡_, refl, sym, ap, _∙_}
-use mathlib.Core.Bool.{Bool, true, false, cond, not, _&&_, _||_}
-use mathlib.Core.List.{List, [], _∷_}
-use Prim.Native.Nat.{ℕ}
-use native.Mathlib.Omega.{arith}
-use lib.Dec.{eqb, leb}
-use Rattle.words.specs.declared.DeviceAddress.{DeviceAddress}
-use Rattle.words.specs.declared.GroupAddress.{GroupAddress}
-use Rattle.words.specs.declared.Fields.{Fields}
-use Rattle.words.specs.declared.Kind.the-variants.{Devices, Binds as bind-table, Members}
-use Rattle.words.specs.declared.Destination.the-variants.{Binds}
+use Rattle.words.specs.Basics.{_≡_, refl, sym, ap, _∙_, Bool, true, false, cond, not, _&&_, _||_, List, [], _∷_, ℕ, arith, eqb, leb}
+use Rattle.rules.specs.Types.{DeviceAddress, GroupAddress, Fields, BindAddress, Devices, Binds, Members}
 use Rattle.rules.specs.Lists.{any, all, keep, has, _&_}
 use Rattle.rules.specs.Units.{rising}
 use Rattle.rules.specs.Tables.{Rec, used}
@@ -55,9 +46,9 @@ unfolding reaches
 reaches-agree ms l a u b = ap (λ w. cond (toGroup b) w (eqb (bindTo b) u)) (agree-any ms l a _)
 
 module _ (L₀ L : Lent) (h : List Event) (k : Held L₀ L h) where
-  binds : Agree (tables L bind-table) (standing bind-table h)
+  binds : Agree (tables L Binds) (standing Binds h)
   unfolding hasPage
-  binds = k .pages bind-table refl
+  binds = k .pages Binds refl
 
   pub members : Agree (tables L Members) (standing Members h)
   unfolding hasPage
@@ -68,7 +59,7 @@ module _ (L₀ L : Lent) (h : List Event) (k : Held L₀ L h) where
   devices = k .pages Devices refl
 
   abbrev listed : Fields → List ℕ
-  listed f = recipients (tables L bind-table) (tables L Members) Binds f
+  listed f = recipients (tables L Binds) (tables L Members) BindAddress f
 
   has-recipients : (f : Fields) (u : ℕ) → has u (listed f) ≡ (not (eqb u (sender f)) & linked h f u)
   unfolding recipients bound linked has _&_
@@ -76,12 +67,12 @@ module _ (L₀ L : Lent) (h : List Event) (k : Held L₀ L h) where
       has-ordered u _
       ∙ has-without u (sender f) _
       ∙ ap (λ w. not (eqb u (sender f)) && w)
-      (any-flatMap (eqb u) (reached (tables L Members)) (keep (bindMatches f) (used (tables L bind-table)))
-      ∙ any-keep (λ b. any (eqb u) (reached (tables L Members) b)) (bindMatches f) (used (tables L bind-table))
+      (any-flatMap (eqb u) (reached (tables L Members)) (keep (bindMatches f) (used (tables L Binds)))
+      ∙ any-keep (λ b. any (eqb u) (reached (tables L Members) b)) (bindMatches f) (used (tables L Binds))
       ∙ any-same _ _ (λ b. ap (λ w. bindMatches f b && w)
       (has-reached (tables L Members) (shaped-records (size Members) (L .members) (k .sane .octets Members)) u b
-      ∙ reaches-agree (tables L Members) _ members u b)) (used (tables L bind-table))
-      ∙ agree-any (tables L bind-table) _ binds _)
+      ∙ reaches-agree (tables L Members) _ members u b)) (used (tables L Binds))
+      ∙ agree-any (tables L Binds) _ binds _)
 
   rising-recipients : (f : Fields) → rising (listed f) ≡ true
   unfolding recipients

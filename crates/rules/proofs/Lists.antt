@@ -1,10 +1,6 @@
 -- Laws of the tests on lists: counting, finding and keeping. Laws of `any` and `all` follow from those of `count`.
-use mathlib.Core.Path.{_≡_, refl, sym, ap, _∙_}
-use mathlib.Core.Bool.{Bool, true, false, false≢true, cond, not, _&&_, _||_}
-use mathlib.Core.List.{List, [], _∷_, _++_, map, flatMap}
-use Prim.Native.Nat.{ℕ, zero, suc, _+_, _≤_, _<_}
-use native.Mathlib.Omega.{arith}
-use lib.ListN.{length, getD, take, drop, replicate}
+use Rattle.words.specs.Basics.{_≡_, refl, sym, ap, _∙_, Bool, true, false, cond, not, _&&_, _||_, false≢true, List, [], _∷_, _++_, map, flatMap, ℕ, zero, suc}
+use Rattle.words.specs.Basics.{_+_, _<_, _≤_, arith, length, take, drop, replicate, getD}
 use Rattle.rules.specs.Lists.{_&_, ask, tick, count, any, all, keep, firstOf}
 
 unfoldable pub some? : ℕ → Bool

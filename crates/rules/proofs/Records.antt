@@ -1,16 +1,12 @@
 -- Laws of a table's octets and its records, by which loops over octets meet the definitions over records. Proofs above use these laws; how `records`
 -- cuts is used in this file alone.
-use mathlib.Core.Path.{_≡_, refl, sym, ap, _∙_}
-use mathlib.Core.Bool.{Bool, true, false, cond, _&&_, _||_}
-use mathlib.Core.List.{List, [], _∷_, _++_, append-assoc, append-nil}
-use Prim.Native.Nat.{ℕ, zero, suc, _+_, _-_, _*_, _/_, _%_, _≤_, _<_}
 use native.Mathlib.Nat.{div-eq-sub-div, div-eq-of-lt, div-add-mod', mod-eq-sub-mod, mod-eq-of-lt, div-mul-le-self}
 use native.Mathlib.Nat.{mul-div-cancel, sub-zero, zero-mul, zero-add, not-suc-le-zero, le-of-suc-le-suc}
 use native.Mathlib.Numerals.{add-one}
-use native.Mathlib.Omega.{arith}
-use lib.Dec.{eqb}
-use lib.ListN.{length, take, drop, length-append, length-drop, replicate, length-map}
-use lib.Seq.{getD-take, getD-drop, drop-drop, drop-length, take-length, length-take-le, take-add, take-at, drop-at, sets, sets-eq, length-sets}
+use lib.Seq.{getD-take, take-length, take-add, take-at}
+use Rattle.words.specs.Basics.{_≡_, refl, sym, ap, _∙_, Bool, true, false, cond, _&&_, _||_, List, [], _∷_, _++_, append-nil, append-assoc, ℕ, zero, suc, _+_}
+use Rattle.words.specs.Basics.{_-_, _*_, _/_, _%_, _<_, _≤_, arith, eqb, length, take, drop, replicate, length-drop, length-append, length-map, sets}
+use Rattle.words.specs.Basics.{length-take-le, drop-at, drop-length, drop-drop, getD-drop, length-sets, sets-eq}
 use Rattle.rules.specs.Octets.{octet, starts}
 use Rattle.rules.specs.Tables.{Rec, cut, records, bytes, free?, blank, matches, put, clear, none, written}
 

@@ -1,18 +1,11 @@
 -- What was written is read back: the octets of a header and its payload give the fields and the payload again (document 01, The message).
-use mathlib.Core.Path.{_≡_, refl, ap, _∙_}
-use mathlib.Core.Bool.{true}
-use mathlib.Core.List.{List, _++_}
-use Prim.Native.Nat.{ℕ, _+_, _-_, _*_, _/_, _%_, _≤_, _<_}
-use native.Mathlib.Omega.{arith}
-use lib.ListN.{length, length-append}
-use lib.Seq.{drop-at}
-use borrow.Author.Tests.{le-leb, eq-eqb}
+use Rattle.words.specs.Basics.{_≡_, refl, ap, _∙_, true, List, _++_, ℕ, _+_, _-_, _*_, _/_, _%_, _<_, _≤_, arith, length, length-append, drop-at, eq-eqb}
+use Rattle.words.specs.Basics.{le-leb}
+use Rattle.rules.specs.Types.{Fields, Done}
 use Rattle.rules.specs.Octets.{word, octets, flag, number, joined}
 use Rattle.words.specs.Names.{headerLength, payloadPlace, longest, commandType, lastType}
 use Rattle.rules.specs.Message.{dataLength, messageType, payload, fields, lengthFits, dataLengthFits, typeFits, reads, readingOf, reading}
 use Rattle.rules.specs.Message.{header, answering, reply}
-use Rattle.words.specs.declared.Fields.{Fields}
-use Rattle.words.specs.declared.Outcome.the-variants.{Done}
 use Rattle.rules.proofs.Lists.{join, ask-pass}
 
 -- the fields that a message with this payload can have

@@ -1,11 +1,7 @@
 -- The rows of document 01, "Rows to try": the cases marked P and the sample of `links`; behind them rows for its "Errors that look reasonable" and for
 -- the order of its checks. Each row is start tables, a message and the whole result: outcome, tables, reply and list. One theorem.
-use mathlib.Core.Path.{_≡_, refl}
-use mathlib.Core.List.{List, [], _∷_, _++_}
-use Prim.Native.Nat.{ℕ, _+_, _-_}
-use lib.ListN.{length, replicate}
-use Rattle.words.specs.declared.Outcome.{Outcome}
-use Rattle.words.specs.declared.Outcome.the-variants.{Done, Forwarded, WrongLength, WrongDataLength, WrongType, ResponseToMany}
+use Rattle.words.specs.Basics.{_≡_, refl, List, [], _∷_, _++_, ℕ, _+_, _-_, length, replicate}
+use Rattle.rules.specs.Types.{Outcome, Done, Forwarded, WrongLength, WrongDataLength, WrongType, ResponseToMany}
 use Rattle.rules.specs.Octets.{over}
 use Rattle.rules.specs.Frame.{Lent, lent}
 use Rattle.rules.specs.Calls.{message, Answer, answer}

@@ -1,15 +1,8 @@
 -- Over any run from free tables, the tables stay sound and of their lengths, and each holds the records that stand by history.
-use mathlib.Core.Path.{_≡_, refl, _∙_}
-use mathlib.Core.Bool.{true, false, cond}
-use mathlib.Core.List.{List, [], _∷_}
-use Prim.Native.Nat.{ℕ, zero, suc, _*_, _/_}
 use native.Mathlib.Nat.{div-add-mod'}
-use native.Mathlib.Omega.{arith}
-use borrow.Author.Tests.{eqb-true, le-leb}
-use lib.Dec.{eqb, leb}
-use lib.ListN.{length, take, drop, take-append-drop, length-drop}
-use Rattle.words.specs.declared.Kind.{Kind}
-use Rattle.words.specs.declared.Kind.the-variants.{Devices, Groups}
+use Rattle.words.specs.Basics.{_≡_, refl, _∙_, true, false, cond, List, [], _∷_, ℕ, zero, suc, _*_, _/_, arith, eqb, leb, length, take, drop, length-drop}
+use Rattle.words.specs.Basics.{take-append-drop, eqb-true, le-leb}
+use Rattle.rules.specs.Types.{Kind, Devices, Groups}
 use Rattle.rules.specs.Lists.{all}
 use Rattle.rules.specs.Octets.{octetString}
 use Rattle.rules.specs.Tables.{Rec, cut, records, free?}

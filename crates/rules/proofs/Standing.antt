@@ -1,8 +1,5 @@
 -- A table holds the records that stand by history: where a call does to a table what its entry says, they agree before it and after it.
-use mathlib.Core.Path.{_≡_, refl, sym, ap, _∙_}
-use mathlib.Core.Bool.{Bool, true, not, _&&_}
-use mathlib.Core.List.{List, [], _∷_}
-use Prim.Native.Nat.{ℕ}
+use Rattle.words.specs.Basics.{_≡_, refl, sym, ap, _∙_, Bool, true, not, _&&_, List, [], _∷_, ℕ}
 use Rattle.rules.specs.Lists.{tick, count, any, all, keep}
 use Rattle.rules.specs.Tables.{Rec, free?, used, Change, none, store, wipe, change}
 use Rattle.rules.specs.History.{Entry, silent, adds, withdraws, stand}

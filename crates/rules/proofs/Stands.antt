@@ -1,12 +1,11 @@
 -- A record stands by the recursion of the history if and only if it stands in the customer's own form: a granted call added it, and no granted call
 -- since withdrew it.
-use mathlib.Core.Path.{_≡_, refl, sym, ap, _∙_}
-use mathlib.Core.Bool.{Bool, true, false, false≢true, cond, not, _&&_}
 use mathlib.Core.Logic.{_⊎_, inl, inr}
-use mathlib.Core.List.{List, [], _∷_, _++_, List·Memᴰ, List·Memᴰ·head, List·Memᴰ·tail, List·Memᴰ·not-nil, List·Memᴰ·cases-cons}
+use mathlib.Core.List.{List·Memᴰ, List·Memᴰ·head, List·Memᴰ·tail, List·Memᴰ·not-nil, List·Memᴰ·cases-cons}
+use Rattle.words.specs.Basics.{_≡_, refl, sym, ap, _∙_, Bool, true, false, cond, not, _&&_, false≢true, List, [], _∷_, _++_}
+use Rattle.rules.specs.Types.{Kind}
 use Rattle.rules.specs.Lists.{all, keep, _&_}
 use Rattle.rules.specs.Tables.{Rec}
-use Rattle.words.specs.declared.Kind.{Kind}
 use Rattle.rules.specs.History.{Event, granted, Entry, silent, adds, withdraws, entries, stand, standing, strikes, spares, Stands}
 use Rattle.rules.proofs.Lists.{and-parts}
 

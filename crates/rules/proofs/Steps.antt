@@ -1,19 +1,8 @@
 -- Every call, refused ones included, is one step: it leaves the tables with a change in order, and the change is what the call and its answer say.
-use mathlib.Core.Path.{_≡_, refl, sym, ap, _∙_}
-use mathlib.Core.Bool.{Bool, true, false, cond}
-use mathlib.Core.List.{List, [], _∷_}
-use Prim.Native.Nat.{ℕ}
-use borrow.Author.Tests.{eqb-true}
-use lib.Dec.{eqb}
+use Rattle.words.specs.Basics.{_≡_, refl, sym, ap, _∙_, Bool, true, false, cond, List, [], _∷_, ℕ, eqb, eqb-true}
 use Rattle.words.specs.Names.{code, ok, headerLength}
 use Rattle.words.specs.Outcomes.{numberOf}
-use Rattle.words.specs.declared.Fields.{Fields}
-use Rattle.words.specs.declared.Code.{Code}
-use Rattle.words.specs.declared.Kind.the-variants.{Binds as bind-table, Members}
-use Rattle.words.specs.declared.Command.{Command}
-use Rattle.words.specs.declared.Decoded.the-variants.{Is}
-use Rattle.words.specs.declared.Outcome.{Outcome}
-use Rattle.words.specs.declared.Way.{Way}
+use Rattle.rules.specs.Types.{Code, Fields, Command, Is, Binds, Members, Outcome, Way}
 use Rattle.rules.specs.Lists.{_&_}
 use Rattle.rules.specs.Octets.{octet, octets, over, octetString}
 use Rattle.rules.specs.Frame.{Lent, tables, Effect, nothing, changed}
@@ -56,7 +45,7 @@ answers L m r l = by (ways L m r l)
     by : {w : Way} → Ways (Acting L m r l) (fields m) w → Answers L m r l (follow w L m r l)
     by (refuses {o = o} n) = leaves refl (not-granted (answer o L r l) n.0)
     by (serves {k = k} p e) = handles e
-    by (forwards {to = to} p e) = handed-on (recipients (tables L bind-table) (tables L Members) to (fields m)) L m r l
+    by (forwards {to = to} p e) = handed-on (recipients (tables L Binds) (tables L Members) to (fields m)) L m r l
 
 -- the code of a command is octet 16 of its reply
 pub handled-granted : (L : Lent) (k : Command) (f : Fields) (p r l : List ℕ)

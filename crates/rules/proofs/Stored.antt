@@ -1,19 +1,10 @@
 -- The records that calls store: each has its table's size, is made of octets, and is no free record.
-use mathlib.Core.Path.{_≡_, refl}
-use mathlib.Core.Bool.{true, false}
-use mathlib.Core.List.{List, [], _∷_}
-use Prim.Native.Nat.{ℕ, suc, _+_, _-_, _/_, _%_, _≤_, _<_}
-use native.Mathlib.Omega.{arith}
-use borrow.Author.Tests.{leb-true, le-leb, eq-eqb, ne-eqb}
-use lib.Dec.{leb, eqb}
-use lib.ListN.{length, drop, replicate, length-append, length-replicate}
-use lib.Seq.{drop-at}
+use Rattle.words.specs.Basics.{_≡_, refl, true, false, List, [], _∷_, ℕ, suc, _+_, _-_, _/_, _%_, _<_, _≤_, arith, eqb, leb, length, drop, replicate}
+use Rattle.words.specs.Basics.{length-append, length-replicate, drop-at, eq-eqb, ne-eqb, leb-true, le-leb}
+use Rattle.rules.specs.Types.{DeviceAddress, GroupAddress, Devices, Binds, Groups, Members}
 use Rattle.rules.specs.Lists.{all}
 use Rattle.rules.specs.Octets.{octet, word, octets, ignoreTop, octetString}
 use Rattle.rules.specs.Tables.{Rec, free?}
-use Rattle.words.specs.declared.DeviceAddress.{DeviceAddress}
-use Rattle.words.specs.declared.GroupAddress.{GroupAddress}
-use Rattle.words.specs.declared.Kind.the-variants.{Devices, Binds, Groups, Members}
 use Rattle.rules.specs.Layout.{size, longestName, deviceRecord, groupRecord}
 use Rattle.rules.specs.Sound.{addressFits, deviceInRange, deviceFits, groupFits}
 use Rattle.rules.specs.Payloads.{bindOf, memberOf, groupNamed}

@@ -1,21 +1,10 @@
 -- Which way a message goes, and what is known behind it: the one eliminator of `way` (document 01, Outcomes, "Order for a message").
-use mathlib.Core.Path.{_≡_, refl, ap}
-use mathlib.Core.Bool.{Bool, true, false, false≢true, not}
-use mathlib.Core.List.{List}
-use Prim.Native.Nat.{ℕ}
-use lib.Dec.{eqb}
+use Rattle.words.specs.Basics.{_≡_, refl, ap, Bool, true, false, not, false≢true, List, ℕ, eqb}
 use Rattle.words.specs.Outcomes.{numberOf, valueOf}
-use Rattle.words.specs.declared.Fields.{Fields}
-use Rattle.words.specs.declared.Kind.the-variants.{Devices, Groups}
-use Rattle.words.specs.declared.Command.{Command}
-use Rattle.words.specs.declared.Decoded.{Decoded}
 use Rattle.words.specs.declared.Decoded.the-variants.{Is, NotServed}
 use Rattle.words.specs.declared.Destination.{Destination}
-use Rattle.words.specs.declared.Destination.the-variants.{Concentrator, Binds, Unit as One, Group}
-use Rattle.words.specs.declared.Outcome.{Outcome}
-use Rattle.words.specs.declared.Outcome.the-variants.{WrongLength, WrongDataLength, WrongType, NoSource, NoDestination, ResponseToMany, Unsound, NoRoom}
-use Rattle.words.specs.declared.Way.{Way}
-use Rattle.words.specs.declared.Way.the-variants.{Refuse, Serve, Forward}
+use Rattle.rules.specs.Types.{Fields, Concentrator, BindAddress, Unit as One, Group, Command, Decoded, Devices, Groups, Outcome, WrongLength}
+use Rattle.rules.specs.Types.{WrongDataLength, WrongType, NoSource, NoDestination, ResponseToMany, Unsound, NoRoom, Way, Refuse, Serve, Forward}
 use Rattle.rules.specs.Lists.{ask}
 use Rattle.rules.specs.Tables.{Rec}
 use Rattle.rules.specs.Frame.{Lent, tables}
@@ -57,7 +46,7 @@ module _ {P : Type 0} (p : P) (f : Fields) (ds gs : List Rec) where
   ways-to : (to : Destination) → destination f ≡ to → Ways P f (wayTo ds gs to f)
   unfolding wayTo
   ways-to Concentrator e = ways-asking (command f) refl
-  ways-to Binds e = forwards p e
+  ways-to BindAddress e = forwards p e
   ways-to (One d u) e = ways-ask _ NoDestination (refl, refl) (λ h. forwards p e)
   ways-to (Group g) e = ways-ask _ NoDestination (refl, refl) (λ h. forwards p e)
 

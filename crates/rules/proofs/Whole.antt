@@ -1,6 +1,6 @@
 -- Opens every definition of the rules at once, for statements that compute: one line a file of specs/.
-use Prim.Native.Nat.{ℕ}
 use mathlib.Core.List as list
+use Rattle.words.specs.Basics.{ℕ}
 use Rattle.rules.specs.Lists as lists
 use Rattle.rules.specs.Octets as octets
 use Rattle.rules.specs.Units as units

@@ -1,21 +1,12 @@
 -- Runs of octets and the numbers that they make: on a record of octets, a test by octets and one by number are the same test.
-use mathlib.Core.Path.{_≡_, refl, sym, _∙_}
-use mathlib.Core.Bool.{Bool, true, false, false≢true, not, _&&_}
-use mathlib.Core.List.{List, [], _∷_}
-use Prim.Native.Nat.{ℕ, zero, suc, _+_, _*_, _/_, _%_, _≤_, _<_}
 use native.Mathlib.Numerals.{add-one}
-use native.Mathlib.Omega.{arith}
-use borrow.Author.Tests.{leb-true, eqb-true, eqb-false, eq-eqb, ne-eqb, not-true}
-use lib.Dec.{eqb, leb}
-use lib.ListN.{length}
-use lib.Seq.{drop-cons}
+use Rattle.words.specs.Basics.{_≡_, refl, sym, _∙_, Bool, true, false, not, _&&_, false≢true, List, [], _∷_, ℕ, zero, suc, _+_, _*_, _/_, _%_, _<_, _≤_, arith}
+use Rattle.words.specs.Basics.{eqb, leb, length, drop-cons, not-true, eq-eqb, ne-eqb, eqb-true, leb-true, eqb-false}
+use Rattle.rules.specs.Types.{DeviceAddress, GroupAddress, Binds}
 use Rattle.rules.specs.Lists.{all, _&_}
 use Rattle.rules.specs.Octets.{octet, word, octets, octetString, flag, number, joined}
 use Rattle.rules.specs.Tables.{Rec, matches, addressed}
 use Rattle.words.specs.Names.{flagSet}
-use Rattle.words.specs.declared.DeviceAddress.{DeviceAddress}
-use Rattle.words.specs.declared.GroupAddress.{GroupAddress}
-use Rattle.words.specs.declared.Kind.the-variants.{Binds}
 use Rattle.rules.specs.Layout.{size, partIs, toGroup, boundGroup, boundDevice, bindDestination, toThisGroup, toDevice}
 use Rattle.rules.proofs.Lists.{and-parts, split, same-truth}
 

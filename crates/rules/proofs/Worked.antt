@@ -1,19 +1,12 @@
 -- The run of docs/HISTORY.md, call by call: whether it was granted, what stands after it, and where a request then goes. One theorem.
-use mathlib.Core.Path.{_≡_, refl, ap, _∙_}
-use mathlib.Core.Bool.{Bool, true, false, cond}
-use mathlib.Core.List.{List, [], _∷_, _++_}
-use Prim.Native.Nat.{ℕ}
-use lib.ListN.{length, replicate}
+use Rattle.words.specs.Basics.{_≡_, refl, ap, _∙_, Bool, true, false, cond, List, [], _∷_, _++_, ℕ, length, replicate}
+use Rattle.rules.specs.Types.{Kind, Binds, Members, Outcome, Forwarded, Nobody}
 use Rattle.rules.specs.Octets.{over}
 use Rattle.words.specs.Names.{device}
-use Rattle.words.specs.declared.Kind.{Kind}
-use Rattle.words.specs.declared.Kind.the-variants.{Binds, Members}
 use Rattle.rules.specs.Tables.{Rec}
 use Rattle.rules.specs.Frame.{Lent, lent}
 use Rattle.rules.specs.Calls.{message}
 use Rattle.rules.specs.History.{Call, sends, admits, releases, said, left, after, history, granted, stand, standing, entries}
-use Rattle.words.specs.declared.Outcome.{Outcome}
-use Rattle.words.specs.declared.Outcome.the-variants.{Forwarded, Nobody}
 use Rattle.rules.proofs.Whole.{whole}
 
 -- what is known at one place of a run: the tables, and the binds and members that stand by history

@@ -1,22 +1,11 @@
 -- A message, whole (document 01, Outcomes): the order of its outcomes, and what every lent octet holds after it.
-use mathlib.Core.Bool.{Bool, true, false, not}
-use mathlib.Core.List.{List, [], _∷_}
-use Prim.Native.Nat.{ℕ, _+_, _*_, _/_, max}
-use lib.Dec.{leb}
-use lib.ListN.{length}
+use Rattle.words.specs.Basics.{Bool, true, false, not, List, [], _∷_, ℕ, _+_, _*_, _/_, max, leb, length}
 use Rattle.words.specs.Names.{headerLength, longest}
-use Rattle.words.specs.declared.Fields.{Fields}
-use Rattle.words.specs.declared.Code.{Code}
-use Rattle.words.specs.declared.Kind.the-variants.{Devices, Binds as bind-table, Groups, Members}
-use Rattle.words.specs.declared.Command.{Command}
-use Rattle.words.specs.declared.Decoded.{Decoded}
 use Rattle.words.specs.declared.Decoded.the-variants.{Is, NotServed}
 use Rattle.words.specs.declared.Destination.{Destination}
-use Rattle.words.specs.declared.Destination.the-variants.{Concentrator, Binds, Unit, Group}
-use Rattle.words.specs.declared.Outcome.{Outcome}
 use Rattle.words.specs.declared.Outcome.the-variants.{Done, Forwarded, Nobody, NoSource, NoDestination, ResponseToMany, Unsound, NoRoom, NotServed as Eighteen}
-use Rattle.words.specs.declared.Way.{Way}
-use Rattle.words.specs.declared.Way.the-variants.{Refuse, Serve, Forward}
+use Rattle.rules.specs.Types.{Code, Fields, Concentrator, BindAddress, Unit, Group, Command, Decoded, Devices, Binds, Groups, Members, Outcome, Way}
+use Rattle.rules.specs.Types.{Refuse, Serve, Forward}
 use Rattle.rules.specs.Lists.{ask, _&_}
 use Rattle.rules.specs.Octets.{over}
 use Rattle.rules.specs.Units.{unitOctets}
@@ -34,12 +23,12 @@ use Rattle.rules.specs.Commands.{judge, done, replyPayload}
 unfoldable pub roomy : List ℕ → List ℕ → List ℕ → List ℕ → Bool
 roomy bs ms reply list =
     leb longest (length reply)
-    & leb (3 * max 1 (length bs / size bind-table + length ms / size Members)) (length list)
+    & leb (3 * max 1 (length bs / size Binds + length ms / size Members)) (length list)
 
 -- outcome 15 is for a group and for D'7FFF:U'FF
 unfoldable pub toMany : Destination → Bool
 toMany Concentrator = false
-toMany Binds = true
+toMany BindAddress = true
 toMany (Unit d u) = false
 toMany (Group g) = true
 
@@ -51,7 +40,7 @@ asking NotServed = Refuse Eighteen
 -- "then 18 for D'0:U'0 or 14 for the rest"; D'7FFF:U'FF always exists
 unfoldable pub wayTo : List Rec → List Rec → Destination → Fields → Way
 wayTo ds gs Concentrator f = asking (command f)
-wayTo ds gs Binds f = Forward Binds
+wayTo ds gs BindAddress f = Forward BindAddress
 wayTo ds gs (Unit d u) f = ask (unitExists ds d u) (Refuse NoDestination) (Forward (Unit d u))
 wayTo ds gs (Group g) f = ask (groupExists gs g) (Refuse NoDestination) (Forward (Group g))
 
@@ -98,7 +87,7 @@ forwarded (u ∷ us) L r l = answer (Forwarded (length (u ∷ us))) L r (over (u
 unfoldable pub follow : Way → Lent → List ℕ → List ℕ → List ℕ → Answer
 follow (Refuse o) L m r l = answer o L r l
 follow (Serve k) L m r l = handled L k (fields m) (payload m) r l
-follow (Forward to) L m r l = forwarded (recipients (tables L bind-table) (tables L Members) to (fields m)) L r l
+follow (Forward to) L m r l = forwarded (recipients (tables L Binds) (tables L Members) to (fields m)) L r l
 
 unfoldable pub message : Lent → List ℕ → List ℕ → List ℕ → Answer
 message L m r l = follow (way L m r l) L m r l

@@ -1,17 +1,9 @@
 -- The eleven commands (document 01, Commands and codes): a row for each, with its checks and codes in the paper's order, what it changes, and what its
 -- reply has behind 0x00.
-use mathlib.Core.Bool.{Bool, true, false, cond, not}
-use mathlib.Core.List.{List, [], _∷_, _++_}
-use Prim.Native.Nat.{ℕ, zero, suc, _+_}
-use lib.Dec.{eqb, leb}
-use lib.ListN.{length}
+use Rattle.words.specs.Basics.{Bool, true, false, cond, not, List, [], _∷_, _++_, ℕ, zero, suc, _+_, eqb, leb, length}
 use Rattle.words.specs.Names.{ok, notAuthorized, invalidArgument, notEnoughResources, group, lowest}
-use Rattle.words.specs.declared.Code.{Code}
-use Rattle.words.specs.declared.DeviceAddress.{DeviceAddress}
-use Rattle.words.specs.declared.GroupAddress.{GroupAddress}
-use Rattle.words.specs.declared.Kind.the-variants.{Devices, Binds, Groups, Members}
-use Rattle.words.specs.declared.Command.{Command}
-use Rattle.words.specs.declared.Command.the-variants.{AddBind, RemoveBinds, CreateGroup, DeleteGroup, AddToGroup, RemoveFromGroup, GetGroupInfo}
+use Rattle.rules.specs.Types.{DeviceAddress, GroupAddress, Code, Command, AddBind, RemoveBinds, CreateGroup, DeleteGroup, AddToGroup, RemoveFromGroup}
+use Rattle.rules.specs.Types.{GetGroupInfo, Devices, Binds, Groups, Members}
 use Rattle.rules.specs.Lists.{any, firstOf, ask}
 use Rattle.rules.specs.Octets.{octet, octets}
 use Rattle.rules.specs.Units.{unitOctets, ordered}

@@ -1,14 +1,7 @@
 -- "A copy equals the message but for octets 4 to 6: type 0, device, unit." (document 01, Recipients)
-use mathlib.Core.Bool.{Bool, not}
-use mathlib.Core.List.{List, [], _∷_, _++_}
-use Prim.Native.Nat.{ℕ}
-use lib.Dec.{leb, eqb}
-use lib.ListN.{length}
-use lib.Seq.{sets}
+use Rattle.words.specs.Basics.{Bool, not, List, [], _∷_, _++_, ℕ, eqb, leb, length, sets}
 use Rattle.words.specs.Names.{highest, anyUnit}
-use Rattle.words.specs.declared.DeviceAddress.{DeviceAddress}
-use Rattle.words.specs.declared.Outcome.{Outcome}
-use Rattle.words.specs.declared.Outcome.the-variants.{Done, NoCopy}
+use Rattle.rules.specs.Types.{DeviceAddress, Outcome, Done, NoCopy}
 use Rattle.rules.specs.Lists.{ask, _&_}
 use Rattle.rules.specs.Octets.{octets, over}
 use Rattle.rules.specs.Message.{reads}

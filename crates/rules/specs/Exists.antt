@@ -1,11 +1,7 @@
 -- What exists (document 01, Tables): units, groups, rights.
-use mathlib.Core.Bool.{Bool, true, cond}
-use mathlib.Core.List.{List}
-use Prim.Native.Nat.{ℕ}
-use lib.Dec.{eqb, leb}
+use Rattle.words.specs.Basics.{Bool, true, cond, List, ℕ, eqb, leb}
 use Rattle.words.specs.Names.{concentrator}
-use Rattle.words.specs.declared.DeviceAddress.{DeviceAddress}
-use Rattle.words.specs.declared.GroupAddress.{GroupAddress}
+use Rattle.rules.specs.Types.{DeviceAddress, GroupAddress}
 use Rattle.rules.specs.Lists.{any, _&_}
 use Rattle.rules.specs.Tables.{Rec, used, addressed}
 use Rattle.rules.specs.Layout.{deviceRights, deviceHighest}

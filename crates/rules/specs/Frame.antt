@@ -1,11 +1,7 @@
 -- All lent tables as one frame: one of them by its kind, and what a call does to each. What a command looks at and changes is said by kind, so that a
 -- further table changes no command.
-use mathlib.Core.Bool.{Bool, cond}
-use mathlib.Core.List.{List, [], _∷_}
-use Prim.Native.Nat.{ℕ}
-use lib.Dec.{eqb}
-use Rattle.words.specs.declared.Kind.{Kind}
-use Rattle.words.specs.declared.Kind.the-variants.{Devices, Binds, Groups, Members}
+use Rattle.words.specs.Basics.{Bool, cond, List, [], _∷_, ℕ, eqb}
+use Rattle.rules.specs.Types.{Kind, Devices, Binds, Groups, Members}
 use Rattle.rules.specs.Lists.{all}
 use Rattle.rules.specs.Tables.{Rec, records, Change, none, written}
 use Rattle.rules.specs.Layout.{size}

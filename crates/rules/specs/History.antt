@@ -1,24 +1,11 @@
 -- Condition 3's words, read from the calls and their answers alone: a run, its history, what stands, what is linked, what is counted.
 -- Nothing here looks into a table, and nothing of what a call does to a table is used to say what it adds or withdraws.
-use mathlib.Core.Path.{_≡_}
-use mathlib.Core.Bool.{Bool, true, false, cond, not, _||_}
-use mathlib.Core.List.{List, [], _∷_, _++_}
-use Prim.Native.Nat.{ℕ, _+_}
-use lib.Dec.{eqb, leb}
-use lib.ListN.{drop}
+use Rattle.words.specs.Basics.{_≡_, Bool, true, false, cond, not, _||_, List, [], _∷_, _++_, ℕ, _+_, eqb, leb, drop}
 use Rattle.words.specs.Names.{concentrator, ok, headerLength}
 use Rattle.words.specs.Outcomes.{numberOf}
-use Rattle.words.specs.declared.DeviceAddress.{DeviceAddress}
-use Rattle.words.specs.declared.GroupAddress.{GroupAddress}
-use Rattle.words.specs.declared.Kind.{Kind}
-use Rattle.words.specs.declared.Kind.the-variants.{Devices, Binds as bind-table, Groups, Members}
-use Rattle.words.specs.declared.Command.{Command}
-use Rattle.words.specs.declared.Command.the-variants.{AddBind, RemoveBinds, CreateGroup, DeleteGroup, AddToGroup, RemoveFromGroup, GetGroupInfo}
-use Rattle.words.specs.declared.Decoded.{Decoded}
 use Rattle.words.specs.declared.Decoded.the-variants.{Is, NotServed}
-use Rattle.words.specs.declared.Destination.the-variants.{Binds}
-use Rattle.words.specs.declared.Fields.{Fields}
-use Rattle.words.specs.declared.Outcome.{Outcome}
+use Rattle.rules.specs.Types.{DeviceAddress, GroupAddress, Fields, BindAddress, Command, AddBind, RemoveBinds, CreateGroup, DeleteGroup, AddToGroup}
+use Rattle.rules.specs.Types.{RemoveFromGroup, GetGroupInfo, Decoded, Kind, Devices, Binds, Groups, Members, Outcome}
 use Rattle.rules.specs.Lists.{count, any, all, keep, has, _&_}
 use Rattle.rules.specs.Octets.{octet, word, octetString}
 use Rattle.rules.specs.Units.{rising}
@@ -95,7 +82,7 @@ pub data Entry : Type 0 where
 -- The sheet has a page for devices, one for binds and one for members; groups have none.
 unfoldable pub hasPage : Kind → Bool
 hasPage Devices = true
-hasPage bind-table = true
+hasPage Binds = true
 hasPage Groups = false
 hasPage Members = true
 
@@ -108,12 +95,12 @@ silence k = silent
 
 -- a command, by its payload
 unfoldable pub lines : Command → List ℕ → Entries
-lines AddBind p = also bind-table (adds (bindOf p)) silence
-lines (RemoveBinds q) p = also bind-table (withdraws (partIs q (wanted q p))) silence
+lines AddBind p = also Binds (adds (bindOf p)) silence
+lines (RemoveBinds q) p = also Binds (withdraws (partIs q (wanted q p))) silence
 lines CreateGroup p = silence
 lines DeleteGroup p =
     also Members (withdraws (λ x. eqb (memberGroup x .0) (groupNamed p .0)))
-    (also bind-table (withdraws (λ b. toGroup b & eqb (boundGroup b .0) (groupNamed p .0))) silence)
+    (also Binds (withdraws (λ b. toGroup b & eqb (boundGroup b .0) (groupNamed p .0))) silence)
 lines AddToGroup p = also Members (adds (memberOf p)) silence
 lines RemoveFromGroup p = also Members (withdraws (matches 0 (memberOf p))) silence
 lines GetGroupInfo p = silence
@@ -129,7 +116,7 @@ entries (admits d rights top) = also Devices (adds (deviceRecord d rights top)) 
 entries (releases d) =
     also Devices (withdraws (λ x. eqb (deviceAddress x .0) (d .0)))
     (also Members (withdraws (λ x. eqb (memberDevice x .0) (d .0)))
-    (also bind-table (withdraws (λ b. eqb (bindSource b .0) (d .0) || (not (toGroup b) & eqb (boundDevice b .0) (d .0)))) silence))
+    (also Binds (withdraws (λ b. eqb (bindSource b .0) (d .0) || (not (toGroup b) & eqb (boundDevice b .0) (d .0)))) silence))
 
 unfoldable pub stand : Entry → List Rec → List Rec
 stand silent l = l
@@ -169,7 +156,7 @@ reaches ms u b =
 
 -- is the unit u linked to the sender of a message of these fields, at its interface and role?
 unfoldable pub linked : List Event → Fields → ℕ → Bool
-linked h f u = any (λ b. bindMatches f b & reaches (standing Members h) u b) (standing bind-table h)
+linked h f u = any (λ b. bindMatches f b & reaches (standing Members h) u b) (standing Binds h)
 
 -- the additions to the group less those withdrawn
 unfoldable pub counted : List Event → GroupAddress → ℕ
@@ -188,7 +175,7 @@ pub record Request (h : List Event) (m : List ℕ) : Type 0 where
   pub type : typeFits m ≡ true
   pub request : response (fields m) ≡ false
   pub sent : existing h (fields m .source) (fields m .«source_unit») ≡ true
-  pub to-binds : destination (fields m) ≡ Binds
+  pub to-binds : destination (fields m) ≡ BindAddress
 
 -- "exactly the units .. without the sender, each once, by rising device and unit"
 pub record Exactly (h : List Event) (f : Fields) (us : List ℕ) : Type 0 where

@@ -1,13 +1,7 @@
 -- The two host calls (document 01, Outcomes): admit and release a device.
-use mathlib.Core.Bool.{Bool, cond, not, _||_}
-use mathlib.Core.List.{List}
-use Prim.Native.Nat.{ℕ}
-use lib.Dec.{eqb}
+use Rattle.words.specs.Basics.{Bool, cond, not, _||_, List, ℕ, eqb}
 use Rattle.words.specs.Outcomes.{numberOf}
-use Rattle.words.specs.declared.DeviceAddress.{DeviceAddress}
-use Rattle.words.specs.declared.Kind.the-variants.{Devices, Binds, Members}
-use Rattle.words.specs.declared.Outcome.{Outcome}
-use Rattle.words.specs.declared.Outcome.the-variants.{Done, Unsound, OutOfRange, AlreadyAdmitted, NoFreeRecord, NotAdmitted}
+use Rattle.rules.specs.Types.{DeviceAddress, Devices, Binds, Members, Outcome, Done, Unsound, OutOfRange, AlreadyAdmitted, NoFreeRecord, NotAdmitted}
 use Rattle.rules.specs.Lists.{ask}
 use Rattle.rules.specs.Tables.{Rec, someFree, addressed, store, wipe}
 use Rattle.rules.specs.Layout.{deviceRecord, fromDevice, toDevice, ofDevice}

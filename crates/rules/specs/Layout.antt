@@ -1,17 +1,9 @@
 -- The records (document 01, Tables): how many octets each has, how many there may be, where its fields stand, and how it is built from them.
 -- No other file knows the place of a field.
-use mathlib.Core.Bool.{Bool}
-use mathlib.Core.List.{List, [], _∷_, _++_}
-use Prim.Native.Nat.{ℕ, _+_, _-_, _*_}
-use lib.Dec.{eqb}
-use lib.ListN.{length, take, drop, replicate}
+use Rattle.words.specs.Basics.{Bool, List, [], _∷_, _++_, ℕ, _+_, _-_, _*_, eqb, length, take, drop, replicate}
 use Rattle.words.specs.Names.{device, group, flagSet}
-use Rattle.words.specs.declared.DeviceAddress.{DeviceAddress}
-use Rattle.words.specs.declared.GroupAddress.{GroupAddress}
-use Rattle.words.specs.declared.Kind.{Kind}
-use Rattle.words.specs.declared.Kind.the-variants.{Devices, Binds, Groups, Members}
-use Rattle.words.specs.declared.BindPart.{BindPart}
 use Rattle.words.specs.declared.BindPart.the-variants.{Whole, Source, SourceUnit, Destination, DestinationUnit}
+use Rattle.rules.specs.Types.{DeviceAddress, GroupAddress, BindPart, Kind, Devices, Binds, Groups, Members}
 use Rattle.rules.specs.Octets.{octet, word, octets, flag, number, joined}
 use Rattle.rules.specs.Units.{unitAt}
 use Rattle.rules.specs.Tables.{Rec, matches, addressed}

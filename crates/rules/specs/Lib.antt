@@ -1,4 +1,5 @@
 -- The paper: every definition that a contract cites, a file a topic, in reading order. The words that they use stand in the crate `words`.
+pub mod Types
 pub mod Lists
 pub mod Octets
 pub mod Units

@@ -1,8 +1,5 @@
 -- Lists tested by a Boolean: how many elements pass, whether one does, whether all do, and those that do.
-use mathlib.Core.Bool.{Bool, true, false, cond, _&&_, _||_}
-use mathlib.Core.List.{List, [], _∷_}
-use Prim.Native.Nat.{ℕ, suc}
-use lib.Dec.{eqb}
+use Rattle.words.specs.Basics.{Bool, true, false, cond, _&&_, _||_, List, [], _∷_, ℕ, suc, eqb}
 
 -- "and" that stays shut, so that a law about it finds its arguments
 infixl 35 _&_

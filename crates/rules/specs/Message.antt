@@ -1,17 +1,9 @@
 -- The message (document 01, The message; document 003, 7): its fields, when it is refused, and the header of a reply.
-use mathlib.Core.Bool.{Bool, cond}
-use mathlib.Core.List.{List, _∷_, _++_}
-use Prim.Native.Nat.{ℕ, _-_, _%_}
-use lib.Dec.{eqb, leb}
-use lib.ListN.{length, drop}
+use Rattle.words.specs.Basics.{Bool, cond, List, _∷_, _++_, ℕ, _-_, _%_, eqb, leb, length, drop}
 use Rattle.words.specs.Names.{noFields, device, group, concentrator, bindAddress, anyUnit, headerLength, payloadPlace, longest, flagSet}
 use Rattle.words.specs.Names.{commandType, responseType, lastType, responseTypes}
-use Rattle.words.specs.declared.Fields.{Fields}
 use Rattle.words.specs.declared.Destination.{Destination}
-use Rattle.words.specs.declared.Destination.the-variants.{Concentrator, Binds, Unit, Group}
-use Rattle.words.specs.declared.Outcome.{Outcome}
-use Rattle.words.specs.declared.Outcome.the-variants.{Done, WrongLength, WrongDataLength, WrongType}
-use Rattle.words.specs.declared.Reading.{Reading}
+use Rattle.rules.specs.Types.{Fields, Concentrator, BindAddress, Unit, Group, Outcome, Done, WrongLength, WrongDataLength, WrongType, Reading}
 use Rattle.rules.specs.Lists.{any, ask, _&_}
 use Rattle.rules.specs.Octets.{octet, word, octets, flag, number, joined}
 use Rattle.rules.specs.Units.{unitNumber}
@@ -57,7 +49,7 @@ unfoldable pub destination : Fields → Destination
 destination f =
     cond (eqb (f .«address_type») flagSet) (Group (group (f .destination)))
     (cond (eqb (f .destination) (concentrator .0) & eqb (f .«destination_unit») 0) Concentrator
-    (cond (eqb (f .destination) (bindAddress .0) & eqb (f .«destination_unit») anyUnit) Binds
+    (cond (eqb (f .destination) (bindAddress .0) & eqb (f .«destination_unit») anyUnit) BindAddress
     (Unit (device (f .destination)) (f .«destination_unit»))))
 
 unfoldable pub response : Fields → Bool

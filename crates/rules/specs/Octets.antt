@@ -1,10 +1,6 @@
 -- Octets, and 16-bit words of two octets, most significant first (document 01, The message). A word's top bit is its flag, the rest its number.
 -- Places are counted from 0 in all definitions, and from 1 in the paper: its octet 4 stands at place 3.
-use mathlib.Core.Bool.{Bool, true, false, _&&_}
-use mathlib.Core.List.{List, [], _∷_, _++_}
-use Prim.Native.Nat.{ℕ, _+_, _*_, _/_, _%_}
-use lib.Dec.{eqb, leb}
-use lib.ListN.{length, getD, drop}
+use Rattle.words.specs.Basics.{Bool, true, false, _&&_, List, [], _∷_, _++_, ℕ, _+_, _*_, _/_, _%_, eqb, leb, length, drop, getD}
 use Rattle.rules.specs.Lists.{all}
 
 -- the octet at place i

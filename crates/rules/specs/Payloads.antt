@@ -1,19 +1,11 @@
 -- Which message is which command (document 01, Commands and codes; document 000, 6.2.5 and 6.3.5), and what its payload says.
-use mathlib.Core.Bool.{cond}
-use mathlib.Core.List.{List, _++_}
-use Prim.Native.Nat.{ℕ}
-use lib.Dec.{eqb, leb}
-use lib.ListN.{take, drop}
-use Rattle.words.specs.Names.{group, commandType, askingType, flagSet, bindManagement, groupManagement}
-use Rattle.words.specs.Names.{addBind, removeBind, removeBySource, removeBySourceUnit, removeByDestination, removeByDestinationUnit}
-use Rattle.words.specs.Names.{createGroup, deleteGroup, addToGroup, removeFromGroup, getGroupInfo}
-use Rattle.words.specs.declared.Fields.{Fields}
-use Rattle.words.specs.declared.GroupAddress.{GroupAddress}
-use Rattle.words.specs.declared.BindPart.{BindPart}
+use Rattle.words.specs.Basics.{cond, List, _++_, ℕ, eqb, leb, take, drop}
+use Rattle.words.specs.Names.{group, commandType, askingType, flagSet, bindManagement, groupManagement, addBind, removeBind, removeBySource, removeBySourceUnit}
+use Rattle.words.specs.Names.{removeByDestination, removeByDestinationUnit, createGroup, deleteGroup, addToGroup, removeFromGroup, getGroupInfo}
 use Rattle.words.specs.declared.BindPart.the-variants.{Whole, Source, SourceUnit, Destination, DestinationUnit}
-use Rattle.words.specs.declared.Command.the-variants.{AddBind, RemoveBinds, CreateGroup, DeleteGroup, AddToGroup, RemoveFromGroup, GetGroupInfo}
-use Rattle.words.specs.declared.Decoded.{Decoded}
 use Rattle.words.specs.declared.Decoded.the-variants.{Is, NotServed}
+use Rattle.rules.specs.Types.{GroupAddress, Fields, BindPart, AddBind, RemoveBinds, CreateGroup, DeleteGroup, AddToGroup, RemoveFromGroup, GetGroupInfo}
+use Rattle.rules.specs.Types.{Decoded}
 use Rattle.rules.specs.Lists.{ask, _&_}
 use Rattle.rules.specs.Octets.{word, ignoreTop}
 use Rattle.rules.specs.Tables.{Rec}

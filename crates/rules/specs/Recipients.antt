@@ -1,12 +1,7 @@
 -- Recipients (document 01, Recipients): who gets a message of each kind of destination.
-use mathlib.Core.Bool.{Bool, cond}
-use mathlib.Core.List.{List, [], _∷_, map, flatMap}
-use Prim.Native.Nat.{ℕ}
-use lib.Dec.{eqb}
-use Rattle.words.specs.declared.Fields.{Fields}
-use Rattle.words.specs.declared.GroupAddress.{GroupAddress}
+use Rattle.words.specs.Basics.{Bool, cond, List, [], _∷_, map, flatMap, ℕ, eqb}
 use Rattle.words.specs.declared.Destination.{Destination}
-use Rattle.words.specs.declared.Destination.the-variants.{Concentrator, Binds, Unit, Group}
+use Rattle.rules.specs.Types.{GroupAddress, Fields, Concentrator, BindAddress, Unit, Group}
 use Rattle.rules.specs.Lists.{keep, _&_}
 use Rattle.rules.specs.Units.{unitNumber, ordered, without}
 use Rattle.rules.specs.Message.{sender}
@@ -36,6 +31,6 @@ bound bs ms f = flatMap (reached ms) (keep (bindMatches f) (used bs))
 -- who gets a message of these fields and this destination
 unfoldable pub recipients : List Rec → List Rec → Destination → Fields → List ℕ
 recipients bs ms Concentrator f = []
-recipients bs ms Binds f = ordered (without (sender f) (bound bs ms f))
+recipients bs ms BindAddress f = ordered (without (sender f) (bound bs ms f))
 recipients bs ms (Unit d u) f = unitNumber d u ∷ []
 recipients bs ms (Group g) f = ordered (without (sender f) (membersOf ms g))

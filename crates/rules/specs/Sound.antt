@@ -1,13 +1,7 @@
 -- "Tables are sound if" (document 01, Tables)
-use mathlib.Core.Bool.{Bool, true, cond, not, _&&_, _||_}
-use mathlib.Core.List.{List, [], _∷_}
-use Prim.Native.Nat.{ℕ, _%_}
-use lib.Dec.{eqb, leb}
-use lib.ListN.{length, take}
+use Rattle.words.specs.Basics.{Bool, true, cond, not, _&&_, _||_, List, [], _∷_, ℕ, _%_, eqb, leb, length, take}
 use Rattle.words.specs.Names.{lowest, highest, highestUnit, anyUnit, anyInterface}
-use Rattle.words.specs.declared.DeviceAddress.{DeviceAddress}
-use Rattle.words.specs.declared.Kind.{Kind}
-use Rattle.words.specs.declared.Kind.the-variants.{Devices, Binds, Groups, Members}
+use Rattle.rules.specs.Types.{DeviceAddress, Kind, Devices, Binds, Groups, Members}
 use Rattle.rules.specs.Lists.{any, all, _&_}
 use Rattle.rules.specs.Octets.{flag}
 use Rattle.rules.specs.Tables.{Rec, free?, used, matches}

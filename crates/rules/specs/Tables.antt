@@ -1,9 +1,5 @@
 -- Tables (document 01, Tables): records of one fixed size, one after the other, no header. A free record is all 0xFF.
-use mathlib.Core.Bool.{Bool, cond, not}
-use mathlib.Core.List.{List, [], _∷_, _++_, map}
-use Prim.Native.Nat.{ℕ, zero, suc, _/_}
-use lib.Dec.{eqb}
-use lib.ListN.{length, take, drop}
+use Rattle.words.specs.Basics.{Bool, cond, not, List, [], _∷_, _++_, map, ℕ, zero, suc, _/_, eqb, length, take, drop}
 use Rattle.rules.specs.Lists.{any, all, keep}
 use Rattle.rules.specs.Octets.{starts, octets}
 

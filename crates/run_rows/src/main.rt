@@ -2,9 +2,7 @@
 // Each step sends one message over the same tables: steps 0 and 1 the lengths, 2 to 65 the sixty-four binds that fill the table, of which nothing is
 // printed, 66 to 68 a bind more, a removal and that bind again, 69 and 70 the names.
 use libc::STDOUT_FILENO;
-ghost use mathlib.Core.Path.{_≡_};
-ghost use Prim.Native.Nat.{_≤_};
-ghost use lib.ListN.{length};
+ghost use Rattle.words.specs.Basics.{_≡_, _≤_, length};
 
 // These octets, and zeros behind them.
 fn padded(start: &[u8]) -> [u8; 501]

@@ -1,12 +1,6 @@
 -- Laws of the loops that ask something of every used record of a table.
-use mathlib.Core.Path.{_≡_, refl, sym, ap, _∙_}
-use mathlib.Core.Bool.{Bool, true, false, cond, not, _&&_, _||_}
-use mathlib.Core.List.{List, _∷_}
-use Prim.Native.Nat.{ℕ, _-_}
-use native.Mathlib.Omega.{arith}
-use lib.ListN.{length, take, drop, length-drop}
-use lib.Seq.{take-all}
-use borrow.Author.Tests.{not-true, not-false}
+use Rattle.words.specs.Basics.{_≡_, refl, sym, ap, _∙_, Bool, true, false, cond, not, _&&_, _||_, List, _∷_, ℕ, _-_, arith, length, take, drop, length-drop}
+use Rattle.words.specs.Basics.{take-all, not-true, not-false}
 use Rattle.rules.specs.Lists.{all, keep}
 use Rattle.rules.specs.Tables.{Rec, records, free?, used}
 use Rattle.rules.specs.Sound.{distinct}

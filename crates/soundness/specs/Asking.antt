@@ -1,8 +1,5 @@
 -- What the checks of a table ask of one record.
-use mathlib.Core.Bool.{Bool, not, _||_}
-use mathlib.Core.List.{List}
-use Prim.Native.Nat.{ℕ}
-use lib.ListN.{take}
+use Rattle.words.specs.Basics.{Bool, not, _||_, List, ℕ, take}
 use Rattle.rules.specs.Lists.{any}
 use Rattle.rules.specs.Tables.{Rec, free?, used, matches}
 

@@ -1,15 +1,13 @@
 // "Tables are sound if" (document 01, Tables): each rule is one check, over any table.
 use layouts::shape_of;
 use words::Kind;
-ghost use mathlib.Core.Path.{_≡_};
-ghost use Prim.Native.Nat.{_<_, _≤_};
-ghost use lib.ListN.{length};
+ghost use Rattle.words.specs.Basics.{_≡_, _<_, _≤_, length};
+ghost use Rattle.rules.specs.Types.{Devices, Groups};
 ghost use Rattle.rules.specs.Lists.{all};
 ghost use Rattle.rules.specs.Tables.{records, used};
 ghost use Rattle.rules.specs.Layout.{size};
 ghost use Rattle.rules.specs.Frame.{table, lent};
 ghost use Rattle.rules.specs.Sound.{wholeRecords, fits, distinct, soundTable, sound};
-ghost use Rattle.words.specs.declared.Kind.the-variants.{Devices, Groups};
 ghost use Rattle.soundness.specs.Asking.{freeOr, notAgain};
 
 // "each length is a multiple of its record size and within the limit"

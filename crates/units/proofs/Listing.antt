@@ -1,15 +1,10 @@
 -- Laws of the recipients in a lent list: three octets and the unit's number, reading back what was written, one more recipient.
-use mathlib.Core.Path.{_≡_, refl, sym, ap, _∙_}
-use mathlib.Core.Bool.{true, false, false≢true}
-use mathlib.Core.List.{List, [], _∷_, _++_, flatMap, append-nil, append-assoc}
-use Prim.Native.Nat.{ℕ, zero, suc, _+_, _-_, _*_, _/_, _%_, _^_, _≤_, _<_}
 use native.Mathlib.Nat.{add-zero, sub-zero}
 use native.Mathlib.Numerals.{add-one}
-use native.Mathlib.Omega.{arith}
-use borrow.Author.Tests.{eqb-true}
-use lib.Dec.{eqb}
-use lib.ListN.{length, getD, take, drop, set, length-append, length-drop, length-set, take-append-drop}
-use lib.Seq.{getD-drop, drop-drop, drop-length, drop-append-add, length-take-le, take-at, drop-at, take-suc-set, append-snoc, sets, sets-eq}
+use lib.Seq.{drop-append-add, take-at, take-suc-set, append-snoc}
+use Rattle.words.specs.Basics.{_≡_, refl, sym, ap, _∙_, true, false, false≢true, List, [], _∷_, _++_, flatMap, append-nil, append-assoc, ℕ, zero, suc, _+_, _-_}
+use Rattle.words.specs.Basics.{_*_, _/_, _%_, _^_, _<_, _≤_, arith, eqb, length, take, drop, getD, set, length-drop, length-append, length-set}
+use Rattle.words.specs.Basics.{take-append-drop, sets, length-take-le, drop-at, drop-length, drop-drop, getD-drop, sets-eq, eqb-true}
 use Rattle.rules.specs.Lists.{has}
 use Rattle.rules.specs.Octets.{word, over}
 use Rattle.rules.specs.Units.{unitNumber, unitAt, threeOctets, unitOctets}

@@ -1,9 +1,5 @@
 -- Recipients in a lent list (document 01, Outcomes and Recipients): 3 octets each from its front on, and how many there are.
-use mathlib.Core.Path.{_≡_}
-use mathlib.Core.Bool.{cond}
-use mathlib.Core.List.{List, [], _∷_, _++_}
-use Prim.Native.Nat.{ℕ, zero, suc, _*_, _≤_}
-use lib.ListN.{length, drop}
+use Rattle.words.specs.Basics.{_≡_, cond, List, [], _∷_, _++_, ℕ, zero, suc, _*_, _≤_, length, drop}
 use Rattle.rules.specs.Lists.{has}
 use Rattle.rules.specs.Octets.{over}
 use Rattle.rules.specs.Units.{unitAt, unitOctets}

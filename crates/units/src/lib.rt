@@ -3,10 +3,7 @@ mod rising;
 
 use layouts::unit_at;
 pub use rising::order;
-ghost use mathlib.Core.Path.{_≡_};
-ghost use Prim.Native.Nat.{_+_, _*_, _≤_, _<_, _^_};
-ghost use lib.ListN.{length};
-ghost use lib.Seq.{sets};
+ghost use Rattle.words.specs.Basics.{_≡_, _+_, _*_, _^_, _<_, _≤_, length, sets};
 ghost use Rattle.rules.specs.Lists.{has};
 ghost use Rattle.rules.specs.Units.{threeOctets};
 ghost use Rattle.units.specs.Listing.{units};

@@ -34,7 +34,7 @@ pub struct Fields {
 pub enum Destination {
     // D'0:U'0 and D'7FFF:U'FF, each of individual type
     Concentrator,
-    Binds,
+    BindAddress,
     // any other unit
     Unit(DeviceAddress, u8),
     // a group; the unit octet is ignored

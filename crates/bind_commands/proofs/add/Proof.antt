@@ -1,6 +1,6 @@
 -- `bind_commands::add` meets its contract: the bind is stored where the code is 0x00, and only there.
+use Rattle.words.specs.Basics.{needs}
 use Rattle.changing.proofs.Changed.{changes, stays, found}
-use borrow.Author.Needs.{needs}
 use Rattle.bind_commands.proofs.add.Statement.{statement}
 use Rattle.bind_commands.proofs.add.Tie as tie
 

@@ -1,16 +1,12 @@
 -- `bind_commands::bind_there` meets its contract. The records that are left decide.
-use mathlib.Core.Path.{sym, _∙_}
-use Prim.Native.Nat.{_-_}
-use native.Mathlib.Omega.{arith}
-use lib.ListN.{length}
-use Rattle.words.specs.declared.Kind.the-variants.{Binds}
+use Rattle.words.specs.Basics.{sym, _∙_, _-_, arith, length, needs}
+use Rattle.rules.specs.Types.{Binds}
 use Rattle.rules.specs.Lists.{any, keep}
 use Rattle.rules.specs.Tables.{used, matches}
 use Rattle.rules.specs.Layout.{size}
 use Rattle.rules.proofs.Records.{Walking, walking-start, walking-more, walking-hit, walking-end}
 use Rattle.records.proofs.Search.{any-hit, any-miss}
 use Rattle.bind_commands.proofs.Bound.{compared}
-use borrow.Author.Needs.{needs}
 use Rattle.bind_commands.proofs.bind_there.Statement.{statement}
 use Rattle.bind_commands.proofs.bind_there.Tie as tie
 

@@ -1,12 +1,8 @@
 -- `bind_commands::remove_binds` meets its contract: what it looks for is the payload, a source's top bit ignored.
-use native.Mathlib.Omega.{arith}
-use Prim.Native.Nat.{_≤_}
-use lib.ListN.{length, length-take}
-use denote.Ref.{now}
-use Rattle.words.specs.declared.Kind.the-variants.{Binds}
+use Rattle.words.specs.Basics.{_≤_, arith, length, length-take, now, needs}
+use Rattle.rules.specs.Types.{Binds}
 use Rattle.rules.specs.Layout.{size}
 use Rattle.bind_commands.proofs.Bound.{part-fits, wanted-source, wanted-destination}
-use borrow.Author.Needs.{needs}
 use Rattle.bind_commands.proofs.remove_binds.Statement.{statement}
 use Rattle.bind_commands.proofs.remove_binds.Tie as tie
 

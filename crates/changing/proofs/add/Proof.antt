@@ -1,6 +1,6 @@
 -- `changing::add` meets its contract: the record is stored where the code is 0x00, and only there.
+use Rattle.words.specs.Basics.{needs}
 use Rattle.changing.proofs.Changed.{changes, stays, found}
-use borrow.Author.Needs.{needs}
 use Rattle.changing.proofs.add.Statement.{statement}
 use Rattle.changing.proofs.add.Tie as tie
 

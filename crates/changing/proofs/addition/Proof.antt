@@ -1,7 +1,6 @@
 -- `changing::addition` meets its contract: one check after the other.
-use borrow.Author.Tests.{not-true, not-false}
+use Rattle.words.specs.Basics.{not-true, not-false, needs}
 use Rattle.rules.specs.Lists.{ask}
-use borrow.Author.Needs.{needs}
 use Rattle.changing.proofs.addition.Statement.{statement}
 use Rattle.changing.proofs.addition.Tie as tie
 

@@ -1,9 +1,7 @@
 -- `changing::remove` meets its contract: all matches go, or the table stays.
-use mathlib.Core.Path.{sym, ap, _∙_}
-use borrow.Author.Tests.{not-true, not-false}
-use Rattle.words.specs.declared.Code.{Code}
+use Rattle.words.specs.Basics.{sym, ap, _∙_, not-true, not-false, needs}
+use Rattle.rules.specs.Types.{Code}
 use Rattle.changing.proofs.Changed.{changes, refuses, absent, present}
-use borrow.Author.Needs.{needs}
 use Rattle.changing.proofs.remove.Statement.{statement}
 use Rattle.changing.proofs.remove.Tie as tie
 

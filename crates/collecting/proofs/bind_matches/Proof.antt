@@ -1,8 +1,7 @@
 -- `collecting::bind_matches` meets its contract. Source device and unit are compared as one number.
-use native.Mathlib.Omega.{arith}
-use borrow.Author.Needs.{needs}
 use mir.Syntax.{w8}
 use mir.Val.{Fits}
+use Rattle.words.specs.Basics.{arith, needs}
 use Rattle.rules.specs.Lists.{_&_}
 use Rattle.rules.specs.Layout.{bindSourceUnit}
 use Rattle.rules.specs.Recipients.{bindMatches}

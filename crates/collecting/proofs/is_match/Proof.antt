@@ -1,5 +1,5 @@
 -- `collecting::is_match` meets its contract. A free record matches no message.
-use borrow.Author.Needs.{needs}
+use Rattle.words.specs.Basics.{needs}
 use Rattle.records.specs.Search.{passes}
 use Rattle.collecting.proofs.is_match.Statement.{statement}
 use Rattle.collecting.proofs.is_match.Tie as tie

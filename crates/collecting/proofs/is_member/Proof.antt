@@ -1,6 +1,5 @@
 -- `collecting::is_member` meets its contract. A group's address is the first two octets of a member.
-use mathlib.Core.Path.{_∙_}
-use borrow.Author.Needs.{needs}
+use Rattle.words.specs.Basics.{_∙_, needs}
 use Rattle.rules.specs.Tables.{addressed}
 use Rattle.records.specs.Search.{passes}
 use Rattle.collecting.proofs.is_member.Statement.{statement}

@@ -1,5 +1,5 @@
 -- `collecting::left_out` meets its contract. The sender's number is compared.
-use borrow.Author.Needs.{needs}
+use Rattle.words.specs.Basics.{needs}
 use Rattle.collecting.proofs.left_out.Statement.{statement}
 use Rattle.collecting.proofs.left_out.Tie as tie
 

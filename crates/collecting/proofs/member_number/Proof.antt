@@ -1,6 +1,5 @@
 -- `collecting::member_number` meets its contract. Device and unit make the member's number.
-use mathlib.Core.Path.{_∙_}
-use borrow.Author.Needs.{needs}
+use Rattle.words.specs.Basics.{_∙_, needs}
 use Rattle.rules.specs.Units.{unitAt}
 use Rattle.collecting.proofs.member_number.Statement.{statement}
 use Rattle.collecting.proofs.member_number.Tie as tie

@@ -1,5 +1,5 @@
 -- `collecting::sender` meets its contract. The number of the source device and unit.
-use borrow.Author.Needs.{needs}
+use Rattle.words.specs.Basics.{needs}
 use Rattle.rules.specs.Message.{sender}
 use Rattle.collecting.proofs.sender.Statement.{statement}
 use Rattle.collecting.proofs.sender.Tie as tie

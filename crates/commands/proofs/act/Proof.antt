@@ -1,13 +1,10 @@
 -- `commands::act` meets its contract: each arm knows its command, and its handler's answer is the command's.
-use mathlib.Core.Path.{refl}
-use native.Mathlib.Omega.{arith}
-use Rattle.words.specs.declared.Kind.the-variants.{Binds, Groups, Members}
-use Rattle.words.specs.declared.Command.the-variants.{AddBind, RemoveBinds, AddToGroup, RemoveFromGroup}
+use Rattle.words.specs.Basics.{refl, arith, needs}
+use Rattle.rules.specs.Types.{AddBind, RemoveBinds, AddToGroup, RemoveFromGroup, Binds, Groups, Members}
 use Rattle.rules.specs.Frame.{also}
 use Rattle.rules.proofs.Frames.{replaced}
 use Rattle.commands.proofs.Sizes.{sizes}
 use Rattle.commands.proofs.Performing.{acts-on, acts-create-group, acts-delete-group, acts-get-group-info}
-use borrow.Author.Needs.{needs}
 use Rattle.commands.proofs.act.Statement.{statement}
 use Rattle.commands.proofs.act.Tie as tie
 

@@ -1,15 +1,9 @@
 -- `commands::perform` meets its contract: rights, then length, then the command itself.
-use mathlib.Core.Path.{_∙_}
-use mathlib.Core.List.{List}
-use Prim.Native.Nat.{ℕ}
-use native.Mathlib.Omega.{arith}
-use denote.Ref.{now}
-use borrow.Author.Tests.{not-true, not-false}
+use Rattle.words.specs.Basics.{_∙_, List, ℕ, arith, now, not-true, not-false, needs}
 use Rattle.words.specs.Names.{notAuthorized, invalidArgument}
 use Rattle.rules.specs.Frame.{Lent}
 use Rattle.commands.specs.Perform.{beside}
 use Rattle.commands.proofs.Performing.{refused, without-rights, wrong-length, behind-checks}
-use borrow.Author.Needs.{needs}
 use Rattle.commands.proofs.perform.Statement.{statement}
 use Rattle.commands.proofs.perform.Tie as tie
 

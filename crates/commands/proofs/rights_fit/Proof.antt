@@ -1,6 +1,5 @@
 -- `commands::rights_fit` meets its contract.
-use borrow.Author.Tests.{not-true, not-false}
-use borrow.Author.Needs.{needs}
+use Rattle.words.specs.Basics.{not-true, not-false, needs}
 use Rattle.commands.proofs.rights_fit.Statement.{statement}
 use Rattle.commands.proofs.rights_fit.Tie as tie
 

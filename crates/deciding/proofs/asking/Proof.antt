@@ -1,6 +1,6 @@
 -- `deciding::asking` meets its contract: each arm knows what it was given.
+use Rattle.words.specs.Basics.{needs}
 use Rattle.rules.specs.Calls.{asking}
-use borrow.Author.Needs.{needs}
 use Rattle.deciding.proofs.asking.Statement.{statement}
 use Rattle.deciding.proofs.asking.Tie as tie
 

@@ -1,5 +1,5 @@
 -- `deciding::forwarding` meets its contract: the check, or what is behind it.
-use mathlib.Core.Path.{sym}
+use Rattle.words.specs.Basics.{sym}
 use Rattle.rules.proofs.Lists.{ask-pass, ask-fail}
 use Rattle.deciding.proofs.forwarding.Statement.{statement}
 use Rattle.deciding.proofs.forwarding.Tie as tie

@@ -1,7 +1,7 @@
 -- `deciding::roomy` meets its contract.
+use Rattle.words.specs.Basics.{needs}
 use Rattle.rules.specs.Lists.{_&_}
 use Rattle.rules.specs.Calls.{roomy}
-use borrow.Author.Needs.{needs}
 use Rattle.deciding.proofs.roomy.Statement.{statement}
 use Rattle.deciding.proofs.roomy.Tie as tie
 

@@ -1,6 +1,6 @@
 -- `deciding::to_many` meets its contract: each arm knows what it was given.
+use Rattle.words.specs.Basics.{needs}
 use Rattle.rules.specs.Calls.{toMany}
-use borrow.Author.Needs.{needs}
 use Rattle.deciding.proofs.to_many.Statement.{statement}
 use Rattle.deciding.proofs.to_many.Tie as tie
 

@@ -1,11 +1,9 @@
 -- `deciding::way_of` meets its contract: one check after the other, those of reading as one.
-use mathlib.Core.Path.{sym, _∙_}
-use borrow.Author.Tests.{not-true, not-false}
-use Rattle.words.specs.declared.Way.the-variants.{Refuse}
+use Rattle.words.specs.Basics.{sym, _∙_, not-true, not-false, needs}
+use Rattle.rules.specs.Types.{Refuse}
 use Rattle.rules.specs.Calls.{way}
 use Rattle.rules.proofs.Lists.{ask-pass, ask-fail}
 use Rattle.messages.proofs.Reading.{reads-on, reads-refused, read-fields}
-use borrow.Author.Needs.{needs}
 use Rattle.deciding.proofs.way_of.Statement.{statement}
 use Rattle.deciding.proofs.way_of.Tie as tie
 

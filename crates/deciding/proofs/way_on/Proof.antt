@@ -1,11 +1,8 @@
 -- `deciding::way_on` meets its contract: one check after the other.
-use mathlib.Core.Path.{sym, ap, _∙_}
-use mathlib.Core.Bool.{not}
-use borrow.Author.Tests.{not-true, not-false}
+use Rattle.words.specs.Basics.{sym, ap, _∙_, not, not-true, not-false, needs}
 use Rattle.rules.specs.Lists.{_&_}
 use Rattle.rules.specs.Calls.{wayOn}
 use Rattle.rules.proofs.Lists.{ask-pass, ask-fail}
-use borrow.Author.Needs.{needs}
 use Rattle.deciding.proofs.way_on.Statement.{statement}
 use Rattle.deciding.proofs.way_on.Tie as tie
 

@@ -1,7 +1,6 @@
 -- `deciding::way_to` meets its contract: each arm knows the destination.
-use mathlib.Core.Path.{ap, _∙_}
+use Rattle.words.specs.Basics.{ap, _∙_, needs}
 use Rattle.rules.specs.Calls.{asking, wayTo}
-use borrow.Author.Needs.{needs}
 use Rattle.deciding.proofs.way_to.Statement.{statement}
 use Rattle.deciding.proofs.way_to.Tie as tie
 

@@ -1,5 +1,5 @@
 -- `existing::group_exists` meets its contract.
-use borrow.Author.Needs.{needs}
+use Rattle.words.specs.Basics.{needs}
 use Rattle.rules.specs.Exists.{groupExists}
 use Rattle.existing.proofs.group_exists.Statement.{statement}
 use Rattle.existing.proofs.group_exists.Tie as tie

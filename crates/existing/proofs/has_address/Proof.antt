@@ -1,6 +1,5 @@
 -- `existing::has_address` meets its contract. An address is the first two octets of a record.
-use mathlib.Core.Path.{_∙_}
-use borrow.Author.Needs.{needs}
+use Rattle.words.specs.Basics.{_∙_, needs}
 use Rattle.rules.specs.Tables.{addressed}
 use Rattle.existing.proofs.has_address.Statement.{statement}
 use Rattle.existing.proofs.has_address.Tie as tie

@@ -1,7 +1,5 @@
 -- `existing::has_rights` meets its contract. Address and rights are the first three octets of a record.
-use mathlib.Core.Path.{_∙_}
-use borrow.Author.Needs.{needs}
-use borrow.Author.Tests.{eq-eqb, ne-eqb}
+use Rattle.words.specs.Basics.{_∙_, eq-eqb, ne-eqb, needs}
 use Rattle.rules.specs.Exists.{hasRights}
 use Rattle.existing.proofs.Rights.{rights-any}
 use Rattle.existing.proofs.has_rights.Statement.{statement}

@@ -1,11 +1,8 @@
 -- `existing::has_unit` meets its contract. The records that are left decide.
-use mathlib.Core.Path.{sym, _∙_}
-use Prim.Native.Nat.{_-_}
-use native.Mathlib.Omega.{arith}
-use lib.ListN.{length}
+use Rattle.words.specs.Basics.{sym, _∙_, _-_, arith, length}
+use Rattle.rules.specs.Types.{Devices}
 use Rattle.rules.specs.Lists.{any, keep}
 use Rattle.rules.specs.Tables.{used}
-use Rattle.words.specs.declared.Kind.the-variants.{Devices}
 use Rattle.rules.specs.Layout.{size}
 use Rattle.rules.specs.Exists.{hasUnit}
 use Rattle.rules.proofs.Records.{Walking, walking-start, walking-more, walking-hit, walking-end}

@@ -1,5 +1,5 @@
 -- `existing::is_admitted` meets its contract.
-use borrow.Author.Needs.{needs}
+use Rattle.words.specs.Basics.{needs}
 use Rattle.rules.specs.Exists.{admitted}
 use Rattle.existing.proofs.is_admitted.Statement.{statement}
 use Rattle.existing.proofs.is_admitted.Tie as tie

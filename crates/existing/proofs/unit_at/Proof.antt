@@ -1,9 +1,6 @@
 -- `existing::unit_at` meets its contract. The record is tested where it stands in the table.
-use native.Mathlib.Omega.{arith}
-use lib.Dec.{leb}
-use lib.ListN.{take, drop}
-use borrow.Author.Needs.{needs}
-use Rattle.words.specs.declared.Kind.the-variants.{Devices}
+use Rattle.words.specs.Basics.{arith, leb, take, drop, needs}
+use Rattle.rules.specs.Types.{Devices}
 use Rattle.rules.specs.Layout.{size, deviceHighest}
 use Rattle.rules.specs.Tables.{addressed}
 use Rattle.rules.specs.Exists.{hasUnit}

@@ -1,6 +1,5 @@
 -- `existing::unit_exists` meets its contract. The concentrator is none of the table's.
-use borrow.Author.Needs.{needs}
-use borrow.Author.Tests.{eq-eqb, ne-eqb}
+use Rattle.words.specs.Basics.{eq-eqb, ne-eqb, needs}
 use Rattle.rules.specs.Exists.{unitExists}
 use Rattle.existing.proofs.unit_exists.Statement.{statement}
 use Rattle.existing.proofs.unit_exists.Tie as tie

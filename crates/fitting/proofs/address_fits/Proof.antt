@@ -1,5 +1,5 @@
 -- `fitting::address_fits` meets its contract.
-use mathlib.Core.Path.{refl}
+use Rattle.words.specs.Basics.{refl}
 use Rattle.rules.specs.Lists.{_&_}
 use Rattle.rules.specs.Sound.{addressFits}
 use Rattle.fitting.proofs.address_fits.Statement.{statement}

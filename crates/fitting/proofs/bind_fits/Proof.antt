@@ -1,8 +1,8 @@
 -- `fitting::bind_fits` meets its contract. Each rule is one check.
+use Rattle.words.specs.Basics.{needs}
 use Rattle.rules.specs.Lists.{_&_}
 use Rattle.rules.specs.Octets.{flag}
 use Rattle.rules.specs.Sound.{bindFits}
-use borrow.Author.Needs.{needs}
 use Rattle.fitting.proofs.bind_fits.Statement.{statement}
 use Rattle.fitting.proofs.bind_fits.Tie as tie
 

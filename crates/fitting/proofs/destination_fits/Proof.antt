@@ -1,8 +1,7 @@
 -- `fitting::destination_fits` meets its contract. A bind leads to a group or to a unit.
+use Rattle.words.specs.Basics.{sym, _∙_, needs}
 use Rattle.rules.specs.Lists.{_&_}
 use Rattle.rules.specs.Sound.{destinationFits}
-use mathlib.Core.Path.{sym, _∙_}
-use borrow.Author.Needs.{needs}
 use Rattle.fitting.proofs.destination_fits.Statement.{statement}
 use Rattle.fitting.proofs.destination_fits.Tie as tie
 

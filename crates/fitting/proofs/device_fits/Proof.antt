@@ -1,6 +1,6 @@
 -- `fitting::device_fits` meets its contract.
+use Rattle.words.specs.Basics.{needs}
 use Rattle.rules.specs.Sound.{deviceFits}
-use borrow.Author.Needs.{needs}
 use Rattle.fitting.proofs.device_fits.Statement.{statement}
 use Rattle.fitting.proofs.device_fits.Tie as tie
 

@@ -1,7 +1,7 @@
 -- `fitting::device_in_range` meets its contract.
+use Rattle.words.specs.Basics.{needs}
 use Rattle.rules.specs.Lists.{_&_}
 use Rattle.rules.specs.Sound.{deviceInRange}
-use borrow.Author.Needs.{needs}
 use Rattle.fitting.proofs.device_in_range.Statement.{statement}
 use Rattle.fitting.proofs.device_in_range.Tie as tie
 

@@ -1,8 +1,6 @@
 -- `fitting::fits` meets its contract. Each table has its own rule.
-use mathlib.Core.Path.{ap, _∙_}
-use native.Mathlib.Omega.{arith}
-use borrow.Author.Needs.{needs}
-use Rattle.words.specs.declared.Kind.the-variants.{Binds, Members}
+use Rattle.words.specs.Basics.{ap, _∙_, arith, needs}
+use Rattle.rules.specs.Types.{Binds, Members}
 use Rattle.rules.specs.Layout.{size}
 use Rattle.rules.specs.Sound.{fits}
 use Rattle.layouts.proofs.Copied.{whole-record}

@@ -1,5 +1,5 @@
 -- `fitting::group_fits` meets its contract.
-use borrow.Author.Needs.{needs}
+use Rattle.words.specs.Basics.{needs}
 use Rattle.rules.specs.Lists.{_&_}
 use Rattle.rules.specs.Sound.{groupFits}
 use Rattle.fitting.proofs.group_fits.Statement.{statement}

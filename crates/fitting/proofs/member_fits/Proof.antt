@@ -1,7 +1,7 @@
 -- `fitting::member_fits` meets its contract.
+use Rattle.words.specs.Basics.{needs}
 use Rattle.rules.specs.Lists.{_&_}
 use Rattle.rules.specs.Sound.{memberFits}
-use borrow.Author.Needs.{needs}
 use Rattle.fitting.proofs.member_fits.Statement.{statement}
 use Rattle.fitting.proofs.member_fits.Tie as tie
 

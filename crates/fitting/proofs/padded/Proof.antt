@@ -1,6 +1,5 @@
 -- `fitting::padded` meets its contract. Past the name the octets are 0x00, where there are any.
-use native.Mathlib.Omega.{arith}
-use borrow.Author.Needs.{needs}
+use Rattle.words.specs.Basics.{arith, needs}
 use Rattle.fitting.proofs.Fields.{padding-none, padding-rest}
 use Rattle.fitting.proofs.padded.Statement.{statement}
 use Rattle.fitting.proofs.padded.Tie as tie

@@ -1,6 +1,6 @@
 -- `following::forward` meets its contract: the count tells outcome 2 from outcome 1.
+use Rattle.words.specs.Basics.{needs}
 use Rattle.following.proofs.Acts.{nobody, somebody}
-use borrow.Author.Needs.{needs}
 use Rattle.following.proofs.forward.Statement.{statement}
 use Rattle.following.proofs.forward.Tie as tie
 

@@ -1,11 +1,8 @@
 -- `following::serve` meets its contract: the payload behind the header, then the header.
-use native.Mathlib.Omega.{arith}
 use borrow.Rule.Slice.PartMut.{same-len-mid}
-use denote.Ref.{now}
-use Prim.Native.Nat.{_+_, _≤_}
+use Rattle.words.specs.Basics.{_+_, _≤_, arith, now, needs}
 use Rattle.words.specs.Names.{headerLength, longest}
 use Rattle.following.proofs.Acts.{performed-short, serves}
-use borrow.Author.Needs.{needs}
 use Rattle.following.proofs.serve.Statement.{statement}
 use Rattle.following.proofs.serve.Tie as tie
 

@@ -1,5 +1,5 @@
 -- `gneissfold::gneissfold_admit` meets its contract: the answer of `hub::admit`, told in numbers.
-use borrow.Author.Needs.{needs}
+use Rattle.words.specs.Basics.{needs}
 use Rattle.gneissfold.proofs.Telling.{host-tells}
 use Rattle.gneissfold.proofs.gneissfold_admit.Statement.{statement}
 use Rattle.gneissfold.proofs.gneissfold_admit.Tie as tie

@@ -1,5 +1,5 @@
 -- `gneissfold::gneissfold_copy` meets its contract: the answer of `hub::copy`, told in numbers.
-use borrow.Author.Needs.{needs}
+use Rattle.words.specs.Basics.{needs}
 use Rattle.gneissfold.proofs.Telling.{copy-tells}
 use Rattle.gneissfold.proofs.gneissfold_copy.Statement.{statement}
 use Rattle.gneissfold.proofs.gneissfold_copy.Tie as tie

@@ -1,5 +1,5 @@
 -- `gneissfold::gneissfold_message` meets its contract: the answer of `hub::message`, told in numbers.
-use borrow.Author.Needs.{needs}
+use Rattle.words.specs.Basics.{needs}
 use Rattle.gneissfold.proofs.Telling.{message-tells}
 use Rattle.gneissfold.proofs.gneissfold_message.Statement.{statement}
 use Rattle.gneissfold.proofs.gneissfold_message.Tie as tie

@@ -1,5 +1,5 @@
 -- `gneissfold::gneissfold_read` meets its contract: what `hub::read` reads, told in numbers.
-use borrow.Author.Needs.{needs}
+use Rattle.words.specs.Basics.{needs}
 use Rattle.gneissfold.proofs.Telling.{read-tells}
 use Rattle.gneissfold.proofs.gneissfold_read.Statement.{statement}
 use Rattle.gneissfold.proofs.gneissfold_read.Tie as tie

@@ -1,5 +1,5 @@
 -- `gneissfold::gneissfold_release` meets its contract: the answer of `hub::release`, told in numbers.
-use borrow.Author.Needs.{needs}
+use Rattle.words.specs.Basics.{needs}
 use Rattle.gneissfold.proofs.Telling.{host-tells}
 use Rattle.gneissfold.proofs.gneissfold_release.Statement.{statement}
 use Rattle.gneissfold.proofs.gneissfold_release.Tie as tie

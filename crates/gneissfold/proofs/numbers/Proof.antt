@@ -1,5 +1,5 @@
 -- `gneissfold::numbers` meets its contract: the twelve fields in order, the octets among them widened.
-use borrow.Author.Needs.{needs}
+use Rattle.words.specs.Basics.{needs}
 use Rattle.gneissfold.specs.Numbers.{twelve}
 use Rattle.gneissfold.proofs.numbers.Statement.{statement}
 use Rattle.gneissfold.proofs.numbers.Tie as tie

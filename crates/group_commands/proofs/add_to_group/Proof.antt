@@ -1,9 +1,7 @@
 -- `group_commands::add_to_group` meets its contract: the field rules, then the addition.
-use mathlib.Core.Path.{sym, _∙_}
-use borrow.Author.Tests.{not-true, not-false}
+use Rattle.words.specs.Basics.{sym, _∙_, not-true, not-false, needs}
 use Rattle.rules.proofs.Lists.{ask-pass, ask-fail}
 use Rattle.changing.proofs.Changed.{refuses}
-use borrow.Author.Needs.{needs}
 use Rattle.group_commands.proofs.add_to_group.Statement.{statement}
 use Rattle.group_commands.proofs.add_to_group.Tie as tie
 

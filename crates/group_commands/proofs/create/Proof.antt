@@ -1,6 +1,6 @@
 -- `group_commands::create` meets its contract: what `create_group` and `write_created` answer, at the new address.
+use Rattle.words.specs.Basics.{needs}
 use Rattle.group_commands.proofs.Grouped.{makes}
-use borrow.Author.Needs.{needs}
 use Rattle.group_commands.proofs.create.Statement.{statement}
 use Rattle.group_commands.proofs.create.Tie as tie
 

@@ -1,11 +1,9 @@
 -- `group_commands::create_group` meets its contract: the record is stored where the code is 0x00, and only there.
-use native.Mathlib.Omega.{arith}
-use denote.Ref.{now}
-use Rattle.words.specs.declared.Kind.the-variants.{Groups}
+use Rattle.words.specs.Basics.{arith, now, needs}
+use Rattle.rules.specs.Types.{Groups}
 use Rattle.rules.specs.Frame.{table}
 use Rattle.changing.proofs.Changed.{changes, stays}
 use Rattle.group_commands.proofs.Grouped.{name-fits}
-use borrow.Author.Needs.{needs}
 use Rattle.group_commands.proofs.create_group.Statement.{statement}
 use Rattle.group_commands.proofs.create_group.Tie as tie
 

@@ -1,8 +1,6 @@
 -- `group_commands::creation` meets its contract: one check after the other.
-use mathlib.Core.Path.{sym, _∙_}
-use borrow.Author.Tests.{not-true, not-false}
+use Rattle.words.specs.Basics.{sym, _∙_, not-true, not-false, needs}
 use Rattle.group_commands.proofs.Grouped.{name-too-long, no-group-room, creatable}
-use borrow.Author.Needs.{needs}
 use Rattle.group_commands.proofs.creation.Statement.{statement}
 use Rattle.group_commands.proofs.creation.Tie as tie
 

@@ -1,8 +1,6 @@
 -- `group_commands::delete_group` meets its contract: all goes with a group that exists, and nothing without.
-use mathlib.Core.Path.{sym, _∙_}
-use borrow.Author.Tests.{not-true, not-false}
+use Rattle.words.specs.Basics.{sym, _∙_, not-true, not-false, needs}
 use Rattle.group_commands.proofs.Grouped.{no-group, group-gone}
-use borrow.Author.Needs.{needs}
 use Rattle.group_commands.proofs.delete_group.Statement.{statement}
 use Rattle.group_commands.proofs.delete_group.Tie as tie
 

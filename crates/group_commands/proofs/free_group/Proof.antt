@@ -1,6 +1,6 @@
 -- `group_commands::free_group` meets its contract: three removals, each by the octets of the address.
+use Rattle.words.specs.Basics.{needs}
 use Rattle.group_commands.proofs.Grouped.{address-freed, binds-freed}
-use borrow.Author.Needs.{needs}
 use Rattle.group_commands.proofs.free_group.Statement.{statement}
 use Rattle.group_commands.proofs.free_group.Tie as tie
 

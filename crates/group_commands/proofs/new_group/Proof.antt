@@ -1,9 +1,5 @@
 -- `group_commands::new_group` meets its contract. The loop counts up as long as addresses are in use, and ends after as many as there are records.
-use mathlib.Core.Path.{sym, _∙_}
-use native.Mathlib.Omega.{arith}
-use borrow.Author.Needs.{needs}
-use borrow.Author.Tests.{not-true, not-false}
-use denote.Ref.{now}
+use Rattle.words.specs.Basics.{sym, _∙_, arith, now, not-true, not-false, needs}
 use Rattle.group_commands.proofs.Smallest.{Numbering, numbering-start, numbering-more, numbering-hit, numbering-end}
 use Rattle.group_commands.proofs.new_group.Statement.{statement}
 use Rattle.group_commands.proofs.new_group.Tie as tie

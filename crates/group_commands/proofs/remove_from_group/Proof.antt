@@ -1,5 +1,5 @@
 -- `group_commands::remove_from_group` meets its contract: the member is the payload's.
-use borrow.Author.Needs.{needs}
+use Rattle.words.specs.Basics.{needs}
 use Rattle.group_commands.proofs.remove_from_group.Statement.{statement}
 use Rattle.group_commands.proofs.remove_from_group.Tie as tie
 

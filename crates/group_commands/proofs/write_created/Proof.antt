@@ -1,9 +1,7 @@
 -- `group_commands::write_created` meets its contract: the code, and the address behind 0x00.
-use mathlib.Core.Path.{refl}
-use borrow.Author.Tests.{eq-eqb, ne-eqb}
+use Rattle.words.specs.Basics.{refl, eq-eqb, ne-eqb, needs}
 use Rattle.rules.specs.Octets.{octets}
 use Rattle.rules.specs.Commands.{onOk}
-use borrow.Author.Needs.{needs}
 use Rattle.group_commands.proofs.write_created.Statement.{statement}
 use Rattle.group_commands.proofs.write_created.Tie as tie
 

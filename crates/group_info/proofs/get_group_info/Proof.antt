@@ -1,10 +1,9 @@
 -- `group_info::get_group_info` meets its contract: the group that was found is the one that is named.
-use denote.Ref.{now}
-use Rattle.words.specs.declared.Kind.the-variants.{Groups}
+use Rattle.words.specs.Basics.{now, needs}
+use Rattle.rules.specs.Types.{Groups}
 use Rattle.rules.specs.Layout.{size}
 use Rattle.rules.proofs.Records.{length-record}
 use Rattle.group_info.proofs.Told.{group-at, group-absent, named, informs, informs-not}
-use borrow.Author.Needs.{needs}
 use Rattle.group_info.proofs.get_group_info.Statement.{statement}
 use Rattle.group_info.proofs.get_group_info.Tie as tie
 

@@ -1,7 +1,6 @@
 -- `group_info::write_head` meets its contract: three runs, one behind the other.
-use denote.Ref.{now}
+use Rattle.words.specs.Basics.{now, needs}
 use Rattle.group_info.proofs.Pieces.{head-written}
-use borrow.Author.Needs.{needs}
 use Rattle.group_info.proofs.write_head.Statement.{statement}
 use Rattle.group_info.proofs.write_head.Tie as tie
 

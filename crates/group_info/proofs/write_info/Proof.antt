@@ -1,14 +1,10 @@
 -- `group_info::write_info` meets its contract: the members behind, then what stands before them.
-use mathlib.Core.Path.{_∙_}
-use Prim.Native.Nat.{_+_}
-use native.Mathlib.Omega.{arith}
 use borrow.Rule.Slice.PartMut.{same-len-mid}
-use denote.Ref.{now}
+use Rattle.words.specs.Basics.{_∙_, _+_, arith, now, needs}
 use Rattle.rules.specs.Layout.{nameLength}
 use Rattle.messages.proofs.Replies.{rest-is}
 use Rattle.group_info.proofs.Informed.{few-listed}
 use Rattle.group_info.proofs.Pieces.{info-counted, info-written}
-use borrow.Author.Needs.{needs}
 use Rattle.group_info.proofs.write_info.Statement.{statement}
 use Rattle.group_info.proofs.write_info.Tie as tie
 

@@ -1,6 +1,5 @@
 -- `hosting::admission` meets its contract: one check after the other.
-use mathlib.Core.Path.{sym, _∙_}
-use borrow.Author.Needs.{needs}
+use Rattle.words.specs.Basics.{sym, _∙_, needs}
 use Rattle.hosting.proofs.Hosting.{failed, passed, out-of-range, already-there, no-room, is-new}
 use Rattle.hosting.proofs.admission.Statement.{statement}
 use Rattle.hosting.proofs.admission.Tie as tie

@@ -1,7 +1,6 @@
 -- `hosting::admit` meets its contract: the record is stored where the outcome is 0, and only there.
-use native.Mathlib.Omega.{arith}
-use borrow.Author.Needs.{needs}
-use Rattle.words.specs.declared.Kind.the-variants.{Devices}
+use Rattle.words.specs.Basics.{arith, needs}
+use Rattle.rules.specs.Types.{Devices}
 use Rattle.rules.specs.Frame.{also}
 use Rattle.rules.proofs.Frames.{replaced}
 use Rattle.hosting.proofs.Hosting.{failed, passed, whole-table, admit-unsound, admit-refused, admit-done}

@@ -1,5 +1,5 @@
 -- `hosting::free_binds` meets its contract: two removals are one, of what passes either test.
-use borrow.Author.Needs.{needs}
+use Rattle.words.specs.Basics.{needs}
 use Rattle.hosting.proofs.Hosting.{binds-freed}
 use Rattle.hosting.proofs.free_binds.Statement.{statement}
 use Rattle.hosting.proofs.free_binds.Tie as tie

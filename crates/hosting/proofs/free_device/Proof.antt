@@ -1,5 +1,5 @@
 -- `hosting::free_device` meets its contract: three removals by the octets of the address.
-use borrow.Author.Needs.{needs}
+use Rattle.words.specs.Basics.{needs}
 use Rattle.hosting.proofs.Hosting.{device-freed}
 use Rattle.hosting.proofs.free_device.Statement.{statement}
 use Rattle.hosting.proofs.free_device.Tie as tie

@@ -1,6 +1,6 @@
 -- `hosting::release` meets its contract: all goes with the device where no check fails, and nothing else.
-use borrow.Author.Needs.{needs}
-use Rattle.words.specs.declared.Kind.the-variants.{Devices, Binds, Members}
+use Rattle.words.specs.Basics.{needs}
+use Rattle.rules.specs.Types.{Devices, Binds, Members}
 use Rattle.rules.specs.Frame.{also}
 use Rattle.rules.proofs.Frames.{replaced}
 use Rattle.hosting.proofs.Hosting.{failed, passed, whole-table, release-unsound, release-unknown, release-done}

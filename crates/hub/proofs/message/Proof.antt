@@ -1,11 +1,9 @@
 -- `hub::message` meets its contract: each way's part gives the message's answer.
-use mathlib.Core.Path.{sym, _∙_}
-use native.Mathlib.Omega.{arith}
+use Rattle.words.specs.Basics.{sym, _∙_, arith, needs}
 use Rattle.rules.proofs.Ways.{serve-known, forward-known}
 use Rattle.messages.proofs.Reading.{long-enough}
 use Rattle.delivery.proofs.Delivering.{deliverable}
 use Rattle.hub.proofs.Acts.{fields-read, servable, refuses, handled-whole, forwarded-whole}
-use borrow.Author.Needs.{needs}
 use Rattle.hub.proofs.message.Statement.{statement}
 use Rattle.hub.proofs.message.Tie as tie
 

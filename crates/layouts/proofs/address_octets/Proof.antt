@@ -1,5 +1,5 @@
 -- `layouts::address_octets` meets its contract.
-use borrow.Author.Needs.{needs}
+use Rattle.words.specs.Basics.{needs}
 use Rattle.rules.specs.Octets.{octets}
 use Rattle.layouts.proofs.address_octets.Statement.{statement}
 use Rattle.layouts.proofs.address_octets.Tie as tie

@@ -1,7 +1,7 @@
 -- `layouts::device_record` meets its contract.
+use Rattle.words.specs.Basics.{needs}
 use Rattle.rules.specs.Layout.{deviceRecord}
 use Rattle.rules.specs.Octets.{octets}
-use borrow.Author.Needs.{needs}
 use Rattle.layouts.proofs.device_record.Statement.{statement}
 use Rattle.layouts.proofs.device_record.Tie as tie
 

@@ -1,8 +1,6 @@
 -- `layouts::group_record` meets its contract. Name length and name over fourteen zeros, behind the address.
+use Rattle.words.specs.Basics.{append-nil, now, needs}
 use Rattle.layouts.proofs.Built.{record-octets}
-use denote.Ref.{now}
-use mathlib.Core.List.{append-nil}
-use borrow.Author.Needs.{needs}
 use Rattle.layouts.proofs.group_record.Statement.{statement}
 use Rattle.layouts.proofs.group_record.Tie as tie
 

@@ -1,7 +1,6 @@
 -- `layouts::unit_at` meets its contract.
+use Rattle.words.specs.Basics.{_∙_, needs}
 use Rattle.rules.specs.Units.{unitAt}
-use mathlib.Core.Path.{_∙_}
-use borrow.Author.Needs.{needs}
 use Rattle.layouts.proofs.unit_at.Statement.{statement}
 use Rattle.layouts.proofs.unit_at.Tie as tie
 

@@ -1,5 +1,5 @@
 -- `layouts::unit_number` meets its contract. The number is the definition's.
-use borrow.Author.Needs.{needs}
+use Rattle.words.specs.Basics.{needs}
 use Rattle.rules.specs.Units.{unitNumber}
 use Rattle.layouts.proofs.unit_number.Statement.{statement}
 use Rattle.layouts.proofs.unit_number.Tie as tie

@@ -1,11 +1,9 @@
 -- `links_text::answer` meets its contract: the tables are those of the input, and the text is that of the answer.
-use native.Mathlib.Omega.{arith}
-use denote.Ref.{now}
+use Rattle.words.specs.Basics.{arith, now, needs}
 use Rattle.messages.proofs.Replies.{rest-is}
 use Rattle.links_text.proofs.Bounds.{within}
 use Rattle.links_text.specs.Printing.{allTables}
 use Rattle.links_text.proofs.Texts.{answer-text}
-use borrow.Author.Needs.{needs}
 use Rattle.links_text.proofs.answer.Statement.{statement}
 use Rattle.links_text.proofs.answer.Tie as tie
 

@@ -1,6 +1,6 @@
 -- `links_text::print` meets its contract: a short input, or a whole one.
+use Rattle.words.specs.Basics.{needs}
 use Rattle.links_text.proofs.Texts.{short-text}
-use borrow.Author.Needs.{needs}
 use Rattle.links_text.proofs.print.Statement.{statement}
 use Rattle.links_text.proofs.print.Tie as tie
 

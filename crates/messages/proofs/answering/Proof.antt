@@ -1,5 +1,5 @@
 -- `messages::answering` meets its contract. The fields are the definition's.
-use mathlib.Core.Path.{refl}
+use Rattle.words.specs.Basics.{refl}
 use Rattle.rules.specs.Message.{answering}
 use Rattle.messages.proofs.answering.Statement.{statement}
 use Rattle.messages.proofs.answering.Tie as tie

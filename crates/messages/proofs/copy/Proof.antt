@@ -1,5 +1,5 @@
 -- `messages::copy` meets its contract. The outcome's number says whether the message can be read; then the copy fits or does not.
-use borrow.Author.Needs.{needs}
+use Rattle.words.specs.Basics.{needs}
 use Rattle.messages.proofs.Reading.{read-long}
 use Rattle.messages.proofs.Copies.{copy-refused, copy-unfit, copy-done, copy-room}
 use Rattle.messages.proofs.copy.Statement.{statement}

@@ -1,5 +1,5 @@
 -- `messages::copy_fits` meets its contract. The three tests are the definition's.
-use mathlib.Core.Path.{refl}
+use Rattle.words.specs.Basics.{refl}
 use Rattle.rules.specs.Lists.{_&_}
 use Rattle.rules.specs.Copy.{copyFits}
 use Rattle.messages.proofs.copy_fits.Statement.{statement}

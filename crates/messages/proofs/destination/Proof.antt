@@ -1,5 +1,5 @@
 -- `messages::destination` meets its contract. Each test is the definition's.
-use borrow.Author.Tests.{eq-eqb, ne-eqb}
+use Rattle.words.specs.Basics.{eq-eqb, ne-eqb}
 use Rattle.rules.specs.Lists.{_&_}
 use Rattle.rules.specs.Message.{destination}
 use Rattle.messages.proofs.destination.Statement.{statement}

@@ -1,5 +1,5 @@
 -- `messages::destination_octets` meets its contract. The octets are the definition's.
-use borrow.Author.Needs.{needs}
+use Rattle.words.specs.Basics.{needs}
 use Rattle.rules.specs.Octets.{octets}
 use Rattle.messages.proofs.destination_octets.Statement.{statement}
 use Rattle.messages.proofs.destination_octets.Tie as tie

@@ -1,5 +1,5 @@
 -- `messages::fields` meets its contract. Each field is what a callee or an octet says.
-use borrow.Author.Needs.{needs}
+use Rattle.words.specs.Basics.{needs}
 use Rattle.rules.specs.Octets.{flag, number}
 use Rattle.rules.specs.Message.{dataLength, messageType, fields}
 use Rattle.messages.proofs.fields.Statement.{statement}

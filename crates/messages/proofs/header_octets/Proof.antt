@@ -1,5 +1,5 @@
 -- `messages::header_octets` meets its contract. The octets are the definition's.
-use borrow.Author.Needs.{needs}
+use Rattle.words.specs.Basics.{needs}
 use Rattle.rules.specs.Octets.{octets, joined}
 use Rattle.rules.specs.Message.{header}
 use Rattle.messages.proofs.header_octets.Statement.{statement}

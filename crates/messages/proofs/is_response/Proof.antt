@@ -1,5 +1,6 @@
 -- `messages::is_response` meets its contract. The six tests are the definition's, grouped the other way.
-use mathlib.Core.Bool.{or-assoc, or-false}
+use mathlib.Core.Bool.{or-assoc}
+use Rattle.words.specs.Basics.{or-false}
 use Rattle.rules.specs.Lists.{any}
 use Rattle.rules.specs.Message.{response}
 use Rattle.messages.proofs.is_response.Statement.{statement}

@@ -1,5 +1,5 @@
 -- `messages::length_fits` meets its contract. The two tests are the definition's.
-use mathlib.Core.Path.{refl}
+use Rattle.words.specs.Basics.{refl}
 use Rattle.rules.specs.Lists.{_&_}
 use Rattle.rules.specs.Message.{lengthFits}
 use Rattle.messages.proofs.length_fits.Statement.{statement}

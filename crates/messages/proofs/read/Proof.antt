@@ -1,8 +1,5 @@
 -- `messages::read` meets its contract. One check after the other, as in the definition, the later two of the fields that were read.
-use mathlib.Core.Path.{_≡_, sym, _∙_}
-use mathlib.Core.Bool.{true}
-use borrow.Author.Needs.{needs}
-use borrow.Author.Tests.{not-true, not-false}
+use Rattle.words.specs.Basics.{_≡_, sym, _∙_, true, not-true, not-false, needs}
 use Rattle.rules.specs.Lists.{ask}
 use Rattle.rules.specs.Message.{lengthFits, dataLengthFits, reads, reading}
 use Rattle.messages.proofs.Reading.{long-enough, said-length, said-type}

@@ -1,5 +1,5 @@
 -- `messages::type_fits` meets its contract. The two tests are the definition's.
-use mathlib.Core.Path.{refl}
+use Rattle.words.specs.Basics.{refl}
 use Rattle.rules.specs.Lists.{_&_}
 use Rattle.messages.proofs.type_fits.Statement.{statement}
 use Rattle.messages.proofs.type_fits.Tie as tie

@@ -1,6 +1,5 @@
 -- `messages::write_copy` meets its contract. Octets stored in what was written over are stored in the message.
-use mathlib.Core.Path.{_∙_}
-use borrow.Author.Needs.{needs}
+use Rattle.words.specs.Basics.{_∙_, needs}
 use Rattle.messages.proofs.Copies.{copied-over}
 use Rattle.messages.proofs.write_copy.Statement.{statement}
 use Rattle.messages.proofs.write_copy.Tie as tie

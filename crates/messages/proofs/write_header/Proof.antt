@@ -1,6 +1,5 @@
 -- `messages::write_header` meets its contract. The fields that answer are in range, and their octets are put over.
-use mathlib.Core.Path.{_∙_}
-use borrow.Author.Needs.{needs}
+use Rattle.words.specs.Basics.{_∙_, needs}
 use Rattle.messages.proofs.Replies.{answering-ranged}
 use Rattle.messages.proofs.write_header.Statement.{statement}
 use Rattle.messages.proofs.write_header.Tie as tie

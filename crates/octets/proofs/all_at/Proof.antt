@@ -1,6 +1,5 @@
 -- `octets::all_at` meets its contract. What is left to test gives the answer.
-use Prim.Native.Nat.{_-_}
-use native.Mathlib.Omega.{arith}
+use Rattle.words.specs.Basics.{_-_, arith}
 use Rattle.octets.proofs.Runs.{Testing, testing-start, testing-more, testing-stop, testing-end}
 use Rattle.octets.proofs.all_at.Statement.{statement}
 use Rattle.octets.proofs.all_at.Tie as tie

@@ -1,7 +1,6 @@
 -- `octets::bit` meets its contract. A mask of one bit is a remainder.
-use Prim.Native.Nat.{_/_, _^_}
 use lib.Bits.{and-mask}
-use borrow.Author.Needs.{needs}
+use Rattle.words.specs.Basics.{_/_, _^_, needs}
 use Rattle.octets.proofs.bit.Statement.{statement}
 use Rattle.octets.proofs.bit.Tie as tie
 

@@ -1,7 +1,5 @@
 -- `octets::fill_at` meets its contract. What is left to fill gives the octets.
-use Prim.Native.Nat.{_-_}
-use native.Mathlib.Omega.{arith}
-use lib.ListN.{replicate}
+use Rattle.words.specs.Basics.{_-_, arith, replicate}
 use Rattle.octets.proofs.Runs.{Writing, writing-start, filling-more, filling-end}
 use Rattle.octets.proofs.fill_at.Statement.{statement}
 use Rattle.octets.proofs.fill_at.Tie as tie

@@ -1,5 +1,5 @@
 -- `octets::flagged` meets its contract. The shifted flag and the number share no bit.
-use native.Mathlib.Omega.{arith}
+use Rattle.words.specs.Basics.{arith}
 use Rattle.octets.proofs.Bits.{shifted}
 use Rattle.octets.proofs.flagged.Statement.{statement}
 use Rattle.octets.proofs.flagged.Tie as tie

@@ -1,5 +1,5 @@
 -- `octets::join` meets its contract. The shifted octet and the other share no bit.
-use native.Mathlib.Omega.{arith}
+use Rattle.words.specs.Basics.{arith}
 use Rattle.octets.proofs.Bits.{shifted}
 use Rattle.octets.proofs.join.Statement.{statement}
 use Rattle.octets.proofs.join.Tie as tie

@@ -1,7 +1,5 @@
 -- `octets::put` meets its contract. A run written from 0 on is written over.
-use mathlib.Core.Path.{_∙_}
-use borrow.Author.Needs.{needs}
-use denote.Ref.{now}
+use Rattle.words.specs.Basics.{_∙_, now, needs}
 use Rattle.octets.proofs.Runs.{sets-over}
 use Rattle.octets.proofs.put.Statement.{statement}
 use Rattle.octets.proofs.put.Tie as tie

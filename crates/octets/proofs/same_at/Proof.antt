@@ -1,7 +1,5 @@
 -- `octets::same_at` meets its contract. What is left to compare gives the answer.
-use Prim.Native.Nat.{_-_}
-use native.Mathlib.Omega.{arith}
-use lib.ListN.{length}
+use Rattle.words.specs.Basics.{_-_, arith, length}
 use Rattle.octets.proofs.Runs.{Comparing, comparing-start, comparing-more, comparing-stop, comparing-end}
 use Rattle.octets.proofs.same_at.Statement.{statement}
 use Rattle.octets.proofs.same_at.Tie as tie

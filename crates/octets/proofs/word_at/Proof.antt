@@ -1,5 +1,5 @@
 -- `octets::word_at` meets its contract. The joined octets are the word.
-use borrow.Author.Needs.{needs}
+use Rattle.words.specs.Basics.{needs}
 use Rattle.rules.specs.Octets.{word}
 use Rattle.octets.proofs.word_at.Statement.{statement}
 use Rattle.octets.proofs.word_at.Tie as tie

@@ -1,7 +1,5 @@
 -- `octets::write_at` meets its contract. What is left to write gives the octets.
-use Prim.Native.Nat.{_-_}
-use native.Mathlib.Omega.{arith}
-use lib.ListN.{length}
+use Rattle.words.specs.Basics.{_-_, arith, length}
 use Rattle.octets.proofs.Runs.{Writing, writing-start, writing-more, writing-end}
 use Rattle.octets.proofs.write_at.Statement.{statement}
 use Rattle.octets.proofs.write_at.Tie as tie

@@ -1,8 +1,5 @@
 -- `records::find` meets its contract. What is found in the records that are left is what is found in all.
-use mathlib.Core.Path.{sym, _∙_}
-use Prim.Native.Nat.{_-_}
-use native.Mathlib.Omega.{arith}
-use lib.ListN.{length}
+use Rattle.words.specs.Basics.{sym, _∙_, _-_, arith, length}
 use Rattle.rules.specs.Tables.{matches}
 use Rattle.records.proofs.Search.{Finding, finding-start, finding-more, finding-hit, finding-end}
 use Rattle.records.proofs.find.Statement.{statement}

@@ -1,5 +1,5 @@
 -- `records::free_at` meets its contract.
-use borrow.Author.Needs.{needs}
+use Rattle.words.specs.Basics.{needs}
 use Rattle.rules.specs.Tables.{free?}
 use Rattle.records.proofs.free_at.Statement.{statement}
 use Rattle.records.proofs.free_at.Tie as tie

@@ -1,9 +1,6 @@
 -- `records::free_matching` meets its contract. The records before `at` are done.
-use mathlib.Core.Path.{_∙_}
 use mathlib.Core.Logic.{⊎-elim, ⊎-swap}
-use Prim.Native.Nat.{_-_}
-use native.Mathlib.Omega.{arith}
-use lib.ListN.{length, replicate, length-replicate}
+use Rattle.words.specs.Basics.{_∙_, _-_, arith, length, replicate, length-replicate}
 use Rattle.rules.specs.Tables.{matches, clear, written}
 use Rattle.rules.proofs.Records.{Changing, changing-start, changing-hit, changing-miss, changing-end, clear-hit}
 use Rattle.rules.proofs.Records.{clear-miss, clear-end, matches-at, length-record}

@@ -1,6 +1,5 @@
 -- `records::has` meets its contract. A record is found iff there is one.
-use mathlib.Core.Path.{sym, ap, _∙_}
-use borrow.Author.Needs.{needs}
+use Rattle.words.specs.Basics.{sym, ap, _∙_, needs}
 use Rattle.records.proofs.Search.{found?, found-any}
 use Rattle.records.proofs.has.Statement.{statement}
 use Rattle.records.proofs.has.Tie as tie

@@ -1,8 +1,5 @@
 -- `records::has_room` meets its contract. The records that are left decide.
-use mathlib.Core.Path.{sym, _∙_}
-use Prim.Native.Nat.{_-_}
-use native.Mathlib.Omega.{arith}
-use lib.ListN.{length}
+use Rattle.words.specs.Basics.{sym, _∙_, _-_, arith, length}
 use Rattle.rules.specs.Lists.{any}
 use Rattle.rules.specs.Tables.{someFree}
 use Rattle.rules.proofs.Records.{Walking, walking-start, walking-more, walking-hit, walking-end}

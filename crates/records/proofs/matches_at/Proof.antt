@@ -1,9 +1,6 @@
 -- `records::matches_at` meets its contract. A record is tested where it stands in the table.
-use mathlib.Core.Path.{sym, _∙_}
 use mathlib.Core.Bool.{and-true, and-false}
-use native.Mathlib.Omega.{arith}
-use borrow.Author.Needs.{needs}
-use borrow.Author.Tests.{not-true, not-false}
+use Rattle.words.specs.Basics.{sym, _∙_, arith, not-true, not-false, needs}
 use Rattle.rules.proofs.Records.{matches-at}
 use Rattle.records.specs.Search.{passes}
 use Rattle.records.proofs.matches_at.Statement.{statement}

@@ -1,8 +1,5 @@
 -- `records::record_at` meets its contract. A part from `at` to `at + size` has `size` octets.
-use mathlib.Core.Path.{_≡_}
-use Prim.Native.Nat.{_+_, _-_}
-use native.Mathlib.Omega.{arith}
-use borrow.Author.Needs.{needs}
+use Rattle.words.specs.Basics.{_≡_, _+_, _-_, arith, needs}
 use Rattle.records.proofs.record_at.Statement.{statement}
 use Rattle.records.proofs.record_at.Tie as tie
 

@@ -1,8 +1,5 @@
 -- `records::store` meets its contract. No record before `at` is free.
-use mathlib.Core.Path.{refl, sym, _∙_}
-use Prim.Native.Nat.{_-_}
-use native.Mathlib.Omega.{arith}
-use lib.ListN.{length}
+use Rattle.words.specs.Basics.{refl, sym, _∙_, _-_, arith, length}
 use Rattle.rules.specs.Tables.{put, written}
 use Rattle.rules.proofs.Records.{Changing, changing-start, changing-miss, changing-end, put-miss, put-end, put-done}
 use Rattle.records.proofs.store.Statement.{statement}

@@ -1,6 +1,5 @@
 -- `report::digit` meets its contract. The test is the definition's.
-use borrow.Author.Needs.{needs}
-use borrow.Author.Tests.{lt-ltb, le-ltb}
+use Rattle.words.specs.Basics.{lt-ltb, le-ltb, needs}
 use Rattle.report.specs.Text.{digit}
 use Rattle.report.proofs.digit.Statement.{statement}
 use Rattle.report.proofs.digit.Tie as tie

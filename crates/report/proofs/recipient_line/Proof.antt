@@ -1,5 +1,5 @@
 -- `report::recipient_line` meets its contract. Each digit is the definition's.
-use borrow.Author.Needs.{needs}
+use Rattle.words.specs.Basics.{needs}
 use Rattle.report.proofs.recipient_line.Statement.{statement}
 use Rattle.report.proofs.recipient_line.Tie as tie
 

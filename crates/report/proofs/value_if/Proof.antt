@@ -1,6 +1,5 @@
 -- `report::value_if` meets its contract. The test is the definition's.
-use borrow.Author.Needs.{needs}
-use borrow.Author.Tests.{eq-eqb, ne-eqb}
+use Rattle.words.specs.Basics.{eq-eqb, ne-eqb, needs}
 use Rattle.report.specs.Text.{valueIf}
 use Rattle.report.proofs.value_if.Statement.{statement}
 use Rattle.report.proofs.value_if.Tie as tie

@@ -1,11 +1,5 @@
 -- `report::write_answer` meets its contract. The first line and what stands behind it are the whole text.
-use mathlib.Core.Path.{_≡_, sym, _∙_}
-use Prim.Native.Nat.{_≤_}
-use native.Mathlib.Omega.{arith}
-use lib.Seq.{length-take-le}
-use denote.Ref.{now}
-use borrow.Author.Needs.{needs}
-use borrow.Author.Tests.{eq-eqb, ne-eqb}
+use Rattle.words.specs.Basics.{_≡_, sym, _∙_, _≤_, arith, length-take-le, now, eq-eqb, ne-eqb, needs}
 use Rattle.words.specs.Outcomes.{numberOf}
 use Rattle.report.specs.Text.{firstLine, countOf, answerText, Wrote}
 use Rattle.report.proofs.Decimal.{first-line-length}

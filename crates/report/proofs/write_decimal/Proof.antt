@@ -1,6 +1,5 @@
 -- `report::write_decimal` meets its contract. One, two or three digits, as the tests say.
-use native.Mathlib.Omega.{arith}
-use borrow.Author.Needs.{needs}
+use Rattle.words.specs.Basics.{arith, needs}
 use Rattle.report.proofs.Decimal.{one-digit, two-digits, three-digits}
 use Rattle.report.proofs.write_decimal.Statement.{statement}
 use Rattle.report.proofs.write_decimal.Tie as tie

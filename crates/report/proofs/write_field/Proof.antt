@@ -1,5 +1,5 @@
 -- `report::write_field` meets its contract. The word and the number are one piece.
-use borrow.Author.Needs.{needs}
+use Rattle.words.specs.Basics.{needs}
 use Rattle.report.proofs.Pieces.{wrote-more}
 use Rattle.report.proofs.write_field.Statement.{statement}
 use Rattle.report.proofs.write_field.Tie as tie

@@ -1,6 +1,5 @@
 -- `report::write_first_line` meets its contract. Two words with their numbers and the line's end are one piece.
-use native.Mathlib.Omega.{arith}
-use borrow.Author.Needs.{needs}
+use Rattle.words.specs.Basics.{arith, needs}
 use Rattle.report.specs.Text.{firstLine}
 use Rattle.report.proofs.Decimal.{at-most-three}
 use Rattle.report.proofs.Pieces.{wrote-more}

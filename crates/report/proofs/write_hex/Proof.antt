@@ -1,10 +1,5 @@
 -- `report::write_hex` meets its contract. What is left to write gives the digits.
-use Prim.Native.Nat.{_-_, _≤_}
-use mathlib.Core.List.{flatMap}
-use native.Mathlib.Omega.{arith}
-use lib.ListN.{length, drop, length-drop}
-use denote.Ref.{now}
-use borrow.Author.Needs.{needs}
+use Rattle.words.specs.Basics.{flatMap, _-_, _≤_, arith, length, drop, length-drop, now, needs}
 use Rattle.report.specs.Text.{hexOctet}
 use Rattle.report.proofs.Pieces.{Going, going-start, going-more, going-end, next-octet, no-octet, hex-length}
 use Rattle.report.proofs.write_hex.Statement.{statement}

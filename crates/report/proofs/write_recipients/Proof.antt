@@ -1,10 +1,6 @@
 -- `report::write_recipients` meets its contract. What is left to write gives the lines.
-use Prim.Native.Nat.{_-_, _*_, _≤_}
 use native.Mathlib.Nat.{sub-zero}
-use native.Mathlib.Omega.{arith}
-use lib.ListN.{drop}
-use denote.Ref.{now}
-use borrow.Author.Needs.{needs}
+use Rattle.words.specs.Basics.{_-_, _*_, _≤_, arith, drop, now, needs}
 use Rattle.report.specs.Text.{recipientLines}
 use Rattle.report.proofs.Pieces.{Going, going-start, going-more, going-end, next-recipient, no-recipient, lines-length}
 use Rattle.report.proofs.write_recipients.Statement.{statement}

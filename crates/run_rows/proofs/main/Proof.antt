@@ -1,11 +1,5 @@
 -- `run_rows::main` is safe and ends after 71 steps.
-use mathlib.Core.Path.{_≡_, refl, sym, _∙_}
-use mathlib.Core.List.{List}
-use Prim.Native.Nat.{ℕ, _≤_, _-_}
-use native.Mathlib.Omega.{arith}
-use borrow.Author.Needs.{needs}
-use lib.ListN.{length, take}
-use lib.Seq.{length-take-le}
+use Rattle.words.specs.Basics.{_≡_, refl, sym, _∙_, List, ℕ, _-_, _≤_, arith, length, take, length-take-le, needs}
 use Rattle.run_rows.proofs.main.Statement.{statement}
 use Rattle.run_rows.proofs.main.Tie as tie
 

@@ -1,10 +1,6 @@
 -- `soundness::all_fit` meets its contract. The records that are left decide.
-use mathlib.Core.Path.{sym, ap, _∙_}
-use Prim.Native.Nat.{_-_, _<_}
-use native.Mathlib.Omega.{arith}
-use lib.ListN.{length}
-use borrow.Author.Needs.{needs}
-use Rattle.words.specs.declared.Kind.the-variants.{Devices, Groups}
+use Rattle.words.specs.Basics.{sym, ap, _∙_, _-_, _<_, arith, length, needs}
+use Rattle.rules.specs.Types.{Devices, Groups}
 use Rattle.rules.specs.Frame.{table}
 use Rattle.rules.specs.Lists.{all, keep}
 use Rattle.rules.specs.Tables.{used}
@@ -28,8 +24,8 @@ free-or-fits-requires : tie.Need-free-or-fits-requires Inv-loop μ-loop
 free-or-fits-requires c κs =
     let l = c .before .before in
     let s = l .before in
-    ap length (c .record-at .ensures) ∙ length-record (s .shape-of .result .size) (l .loop .at) (s .before .before .before .before .args .given .now) (omega arith)
-    ∙ s .shape-of .ensures .0
+    let given = s .before .before .before .before .args .given .now in
+    ap length (c .record-at .ensures) ∙ length-record (s .shape-of .result .size) (l .loop .at) given (omega arith) ∙ s .shape-of .ensures .0
 
 returns : tie.Need-returns Inv-loop μ-loop
 returns c =

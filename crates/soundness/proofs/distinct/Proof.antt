@@ -1,8 +1,5 @@
 -- `soundness::distinct` meets its contract. The records that are left decide.
-use mathlib.Core.Path.{ap, _∙_}
-use Prim.Native.Nat.{_+_, _-_}
-use native.Mathlib.Omega.{arith}
-use lib.ListN.{length}
+use Rattle.words.specs.Basics.{ap, _∙_, _+_, _-_, arith, length}
 use Rattle.rules.specs.Sound.{distinct}
 use Rattle.rules.proofs.Records.{Walking, walking-start, walking-more, walking-hit, walking-end, length-record}
 use Rattle.soundness.proofs.Asking.{distinct-hit, distinct-miss, rest-of}

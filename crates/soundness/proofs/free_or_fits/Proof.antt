@@ -1,7 +1,6 @@
 -- `soundness::free_or_fits` meets its contract.
-use mathlib.Core.Path.{_∙_}
 use lib.Seq.{take-length}
-use borrow.Author.Needs.{needs}
+use Rattle.words.specs.Basics.{_∙_, needs}
 use Rattle.soundness.proofs.Asking.{free-passes, used-asked}
 use Rattle.soundness.proofs.free_or_fits.Statement.{statement}
 use Rattle.soundness.proofs.free_or_fits.Tie as tie

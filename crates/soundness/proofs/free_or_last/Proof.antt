@@ -1,9 +1,5 @@
 -- `soundness::free_or_last` meets its contract.
-use mathlib.Core.Path.{ap, _∙_}
-use mathlib.Core.Bool.{not}
-use native.Mathlib.Omega.{arith}
-use lib.ListN.{length-take}
-use borrow.Author.Needs.{needs}
+use Rattle.words.specs.Basics.{ap, _∙_, not, arith, length-take, needs}
 use Rattle.soundness.specs.Asking.{notAgain}
 use Rattle.layouts.proofs.Copied.{whole-record}
 use Rattle.soundness.proofs.Asking.{free-passes, used-asked}

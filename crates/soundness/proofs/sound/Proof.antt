@@ -1,5 +1,5 @@
 -- `soundness::sound` meets its contract.
-use borrow.Author.Needs.{needs}
+use Rattle.words.specs.Basics.{needs}
 use Rattle.rules.specs.Lists.{all}
 use Rattle.rules.specs.Frame.{everyTable}
 use Rattle.rules.specs.Sound.{sound}

@@ -1,7 +1,5 @@
 -- `soundness::table_sound` meets its contract: a wrong length decides, and else the records do.
-use mathlib.Core.Path.{sym, _∙_}
-use borrow.Author.Needs.{needs}
-use borrow.Author.Tests.{not-true, not-false}
+use Rattle.words.specs.Basics.{sym, _∙_, not-true, not-false, needs}
 use Rattle.rules.specs.Lists.{_&_}
 use Rattle.rules.specs.Sound.{soundTable}
 use Rattle.rules.proofs.Frames.{shapes}

@@ -1,6 +1,5 @@
 -- `soundness::whole_records` meets its contract.
-use native.Mathlib.Omega.{arith}
-use borrow.Author.Needs.{needs}
+use Rattle.words.specs.Basics.{arith, needs}
 use Rattle.rules.specs.Lists.{_&_}
 use Rattle.rules.specs.Sound.{wholeRecords}
 use Rattle.rules.proofs.Frames.{shapes}

@@ -1,9 +1,5 @@
 -- `collecting::Recipients::take` meets its contract. A unit that is there leaves the list, another one is written behind the others.
-use mathlib.Core.Path.{_≡_, sym, _∙_}
-use mathlib.Core.Bool.{false}
-use native.Mathlib.Omega.{arith}
-use borrow.Author.Needs.{needs}
-use denote.Ref.{now}
+use Rattle.words.specs.Basics.{_≡_, sym, _∙_, false, arith, now, needs}
 use Rattle.rules.specs.Lists.{has}
 use Rattle.units.specs.Listing.{units}
 use Rattle.units.proofs.Listing.{enough-so-far, enough-for-one, taken-there, taken-new}

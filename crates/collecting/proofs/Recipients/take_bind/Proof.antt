@@ -1,11 +1,6 @@
 -- `collecting::Recipients::take_bind` meets its contract. A bind that is free or matches another message leaves the list.
-use native.Mathlib.Omega.{arith}
-use borrow.Author.Needs.{needs}
-use borrow.Author.Tests.{not-true, not-false}
-use denote.Ref.{now}
-use mathlib.Core.List.{List}
-use lib.ListN.{take, drop}
-use Rattle.words.specs.declared.Kind.the-variants.{Binds, Members}
+use Rattle.words.specs.Basics.{List, arith, take, drop, now, not-true, not-false, needs}
+use Rattle.rules.specs.Types.{Binds, Members}
 use Rattle.rules.specs.Tables.{Rec}
 use Rattle.rules.specs.Layout.{size}
 use Rattle.rules.specs.Frame.{table}

@@ -1,13 +1,10 @@
 -- `collecting::Recipients::take_bound` meets its contract. What the binds from `at` on give is still to be taken.
-use Prim.Native.Nat.{_-_}
-use native.Mathlib.Omega.{arith}
-use lib.ListN.{length}
-use Rattle.words.specs.declared.Kind.the-variants.{Binds, Members}
+use Rattle.words.specs.Basics.{_-_, arith, length}
+use Rattle.rules.specs.Types.{Binds, Members}
 use Rattle.rules.specs.Layout.{size}
 use Rattle.rules.specs.Frame.{table}
 use Rattle.collecting.specs.Leaving.{boundBut}
-use Rattle.collecting.proofs.Collecting.{Collecting, collecting-start, collecting-enough, collecting-more, collecting-end}
-use Rattle.collecting.proofs.Collecting.{bound-additive, bound-none}
+use Rattle.collecting.proofs.Collecting.{Collecting, collecting-start, collecting-enough, collecting-more, collecting-end, bound-additive, bound-none}
 use Rattle.collecting.proofs.Recipients.take_bound.Statement.{statement}
 use Rattle.collecting.proofs.Recipients.take_bound.Tie as tie
 

@@ -1,10 +1,6 @@
 -- `collecting::Recipients::take_member` meets its contract. A record that is free or of another group leaves the list.
-use native.Mathlib.Omega.{arith}
-use borrow.Author.Needs.{needs}
-use borrow.Author.Tests.{not-true, not-false}
-use denote.Ref.{now}
-use lib.ListN.{take, drop}
-use Rattle.words.specs.declared.Kind.the-variants.{Members}
+use Rattle.words.specs.Basics.{arith, take, drop, now, not-true, not-false, needs}
+use Rattle.rules.specs.Types.{Members}
 use Rattle.rules.specs.Tables.{Rec}
 use Rattle.rules.specs.Layout.{size}
 use Rattle.units.proofs.Listing.{taken-none}

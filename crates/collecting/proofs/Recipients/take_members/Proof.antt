@@ -1,8 +1,6 @@
 -- `collecting::Recipients::take_members` meets its contract. What the records from `at` on give is still to be taken.
-use Prim.Native.Nat.{_-_}
-use native.Mathlib.Omega.{arith}
-use lib.ListN.{length}
-use Rattle.words.specs.declared.Kind.the-variants.{Members}
+use Rattle.words.specs.Basics.{_-_, arith, length}
+use Rattle.rules.specs.Types.{Members}
 use Rattle.rules.specs.Layout.{size}
 use Rattle.collecting.specs.Leaving.{membersBut}
 use Rattle.collecting.proofs.Collecting.{Collecting, collecting-start, collecting-enough, collecting-more, collecting-end}

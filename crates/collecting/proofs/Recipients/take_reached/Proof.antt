@@ -1,11 +1,8 @@
 -- `collecting::Recipients::take_reached` meets its contract. The flag tells a group's members from the unit that is named.
-use Prim.Native.Nat.{ℕ}
-use borrow.Author.Needs.{needs}
-use denote.Ref.{now}
-use lib.ListN.{getD}
 use mir.Syntax.{w8}
 use mir.Val.{Fits}
-use Rattle.words.specs.declared.Kind.the-variants.{Members}
+use Rattle.words.specs.Basics.{ℕ, getD, now, needs}
+use Rattle.rules.specs.Types.{Members}
 use Rattle.rules.specs.Frame.{table}
 use Rattle.collecting.proofs.Collecting.{bound-small, reached-group, reached-unit}
 use Rattle.collecting.proofs.Recipients.take_reached.Statement.{statement}

@@ -1,6 +1,5 @@
 -- `collecting::Recipients::take_unless` meets its contract. A unit that is left out leaves the list.
-use native.Mathlib.Omega.{arith}
-use borrow.Author.Needs.{needs}
+use Rattle.words.specs.Basics.{arith, needs}
 use Rattle.units.proofs.Listing.{taken-none}
 use Rattle.collecting.proofs.Collecting.{leaving-out, leaving-in}
 use Rattle.collecting.proofs.Recipients.take_unless.Statement.{statement}

@@ -1,6 +1,5 @@
 -- `layouts::bind_at` meets its contract. The record is copied whole.
-use mathlib.Core.Path.{refl}
-use borrow.Author.Needs.{needs}
+use Rattle.words.specs.Basics.{refl, needs}
 use Rattle.layouts.proofs.Copied.{copy-fits, copied}
 use Rattle.layouts.proofs.binds.bind_at.Statement.{statement}
 use Rattle.layouts.proofs.binds.bind_at.Tie as tie

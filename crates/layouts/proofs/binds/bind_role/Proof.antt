@@ -1,6 +1,6 @@
 -- `layouts::binds::bind_role` meets its contract.
+use Rattle.words.specs.Basics.{needs}
 use Rattle.rules.specs.Octets.{flag}
-use borrow.Author.Needs.{needs}
 use Rattle.layouts.proofs.binds.bind_role.Statement.{statement}
 use Rattle.layouts.proofs.binds.bind_role.Tie as tie
 

@@ -1,5 +1,5 @@
 -- `layouts::binds::bind_source` meets its contract.
-use borrow.Author.Needs.{needs}
+use Rattle.words.specs.Basics.{needs}
 use Rattle.layouts.proofs.binds.bind_source.Statement.{statement}
 use Rattle.layouts.proofs.binds.bind_source.Tie as tie
 

@@ -1,6 +1,6 @@
 -- `layouts::binds::bind_uid` meets its contract.
+use Rattle.words.specs.Basics.{needs}
 use Rattle.rules.specs.Octets.{number}
-use borrow.Author.Needs.{needs}
 use Rattle.layouts.proofs.binds.bind_uid.Statement.{statement}
 use Rattle.layouts.proofs.binds.bind_uid.Tie as tie
 

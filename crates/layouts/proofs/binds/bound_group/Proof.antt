@@ -1,6 +1,6 @@
 -- `layouts::binds::bound_group` meets its contract.
+use Rattle.words.specs.Basics.{needs}
 use Rattle.rules.specs.Octets.{number}
-use borrow.Author.Needs.{needs}
 use Rattle.layouts.proofs.binds.bound_group.Statement.{statement}
 use Rattle.layouts.proofs.binds.bound_group.Tie as tie
 

@@ -1,6 +1,6 @@
 -- `layouts::binds::same_bind` meets its contract.
+use Rattle.words.specs.Basics.{needs}
 use Rattle.rules.specs.Tables.{matches}
-use borrow.Author.Needs.{needs}
 use Rattle.layouts.proofs.binds.same_bind.Statement.{statement}
 use Rattle.layouts.proofs.binds.same_bind.Tie as tie
 

@@ -1,7 +1,7 @@
 -- `layouts::binds::to_group` meets its contract.
+use Rattle.words.specs.Basics.{needs}
 use Rattle.rules.specs.Layout.{toGroup}
 use Rattle.rules.specs.Octets.{flag}
-use borrow.Author.Needs.{needs}
 use Rattle.layouts.proofs.binds.to_group.Statement.{statement}
 use Rattle.layouts.proofs.binds.to_group.Tie as tie
 

@@ -1,5 +1,5 @@
 -- `layouts::members::member_device` meets its contract.
-use borrow.Author.Needs.{needs}
+use Rattle.words.specs.Basics.{needs}
 use Rattle.layouts.proofs.members.member_device.Statement.{statement}
 use Rattle.layouts.proofs.members.member_device.Tie as tie
 

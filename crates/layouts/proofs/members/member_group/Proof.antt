@@ -1,5 +1,5 @@
 -- `layouts::members::member_group` meets its contract.
-use borrow.Author.Needs.{needs}
+use Rattle.words.specs.Basics.{needs}
 use Rattle.layouts.proofs.members.member_group.Statement.{statement}
 use Rattle.layouts.proofs.members.member_group.Tie as tie
 

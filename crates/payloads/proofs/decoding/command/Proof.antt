@@ -1,8 +1,7 @@
 -- `payloads::decoding::command` meets its contract. One check after the other.
-use borrow.Author.Tests.{lt-leb, le-leb, eq-eqb, ne-eqb}
+use Rattle.words.specs.Basics.{eq-eqb, ne-eqb, le-leb, lt-leb, needs}
 use Rattle.rules.specs.Lists.{ask, _&_}
 use Rattle.rules.specs.Payloads.{command}
-use borrow.Author.Needs.{needs}
 use Rattle.payloads.proofs.decoding.command.Statement.{statement}
 use Rattle.payloads.proofs.decoding.command.Tie as tie
 

@@ -1,5 +1,5 @@
 -- `payloads::decoding::command_or` meets its contract.
-use borrow.Author.Needs.{needs}
+use Rattle.words.specs.Basics.{needs}
 use Rattle.payloads.proofs.decoding.command_or.Statement.{statement}
 use Rattle.payloads.proofs.decoding.command_or.Tie as tie
 

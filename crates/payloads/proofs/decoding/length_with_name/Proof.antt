@@ -1,7 +1,5 @@
 -- `payloads::decoding::length_with_name` meets its contract. The first octet of nothing is 0.
-use native.Mathlib.Omega.{arith}
-use denote.Ref.{now}
-use borrow.Author.Needs.{needs}
+use Rattle.words.specs.Basics.{arith, now, needs}
 use Rattle.payloads.proofs.Decoded.{first-of-none}
 use Rattle.payloads.proofs.decoding.length_with_name.Statement.{statement}
 use Rattle.payloads.proofs.decoding.length_with_name.Tie as tie

@@ -1,7 +1,6 @@
 -- `payloads::saying::bind_of` meets its contract. The eight octets are the payload's, but for the first one's top bit.
-use denote.Ref.{now}
+use Rattle.words.specs.Basics.{now, needs}
 use Rattle.payloads.proofs.Decoded.{bind-octets}
-use borrow.Author.Needs.{needs}
 use Rattle.payloads.proofs.saying.bind_of.Statement.{statement}
 use Rattle.payloads.proofs.saying.bind_of.Tie as tie
 

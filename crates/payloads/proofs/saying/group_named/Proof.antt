@@ -1,8 +1,6 @@
 -- `payloads::saying::group_named` meets its contract. The two octets are the payload's, but for the top bit.
-use native.Mathlib.Omega.{arith}
-use denote.Ref.{now}
+use Rattle.words.specs.Basics.{arith, now, needs}
 use Rattle.payloads.proofs.Decoded.{group-octets}
-use borrow.Author.Needs.{needs}
 use Rattle.payloads.proofs.saying.group_named.Statement.{statement}
 use Rattle.payloads.proofs.saying.group_named.Tie as tie
 

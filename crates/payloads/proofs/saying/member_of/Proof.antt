@@ -1,7 +1,6 @@
 -- `payloads::saying::member_of` meets its contract. The five octets are the payload's, but for two top bits.
-use denote.Ref.{now}
+use Rattle.words.specs.Basics.{now, needs}
 use Rattle.payloads.proofs.Decoded.{member-octets}
-use borrow.Author.Needs.{needs}
 use Rattle.payloads.proofs.saying.member_of.Statement.{statement}
 use Rattle.payloads.proofs.saying.member_of.Tie as tie
 

@@ -1,7 +1,6 @@
 -- `payloads::saying::source_wanted` meets its contract. The payload is put first, then its first octet's top bit cut off.
-use denote.Ref.{now}
+use Rattle.words.specs.Basics.{now, needs}
 use Rattle.payloads.proofs.Decoded.{first-ignored}
-use borrow.Author.Needs.{needs}
 use Rattle.payloads.proofs.saying.source_wanted.Statement.{statement}
 use Rattle.payloads.proofs.saying.source_wanted.Tie as tie
 
