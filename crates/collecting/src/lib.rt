@@ -1,20 +1,6 @@
 // The recipients are collected in the lent list, each once (document 01, Recipients): those that a record gives, then those of a table.
 use layouts::BIND;
 use layouts::MEMBER;
-use layouts::address_octets;
-use layouts::bind_at;
-use layouts::bind_from;
-use layouts::bind_role;
-use layouts::bind_to;
-use layouts::bind_uid;
-use layouts::bound_group;
-use layouts::member_at;
-use layouts::member_device;
-use layouts::member_unit;
-use layouts::to_group;
-use layouts::unit_number;
-use units::append;
-use units::listed;
 use words::Fields;
 use words::GroupAddress;
 ghost use Rattle.words.specs.Basics.{_≡_, [], _∷_, _+_, _^_, _<_, _≤_, length, take, drop};
@@ -47,7 +33,7 @@ fn left_out(except: Except, u: u32) -> bool
 pub fn sender(f: Fields) -> u32
     ensures { λ r. ⌜ r ≡ sender f ⌝ }
 {
-    unit_number(f.source, f.source_unit)
+    layouts::unit_number(f.source, f.source_unit)
 }
 
 // Is the record at `at` used, and of this group?
@@ -55,7 +41,7 @@ fn is_member(members: &[u8], at: usize, group: GroupAddress) -> bool
     requires { ⌜ at + size Members ≤ length (now members) ⌝ }
     ensures { λ r. ⌜ r ≡ passes (inGroup group) (take (size Members) (drop at (now (members .entry)))) ⌝ }
 {
-    records::matches_at(members, MEMBER, at, 0, &address_octets(group.0))
+    records::matches_at(members, MEMBER, at, 0, &layouts::address_octets(group.0))
 }
 
 // The member in the record at `at`, as one number.
@@ -63,17 +49,17 @@ fn member_number(members: &[u8], at: usize) -> u32
     requires { ⌜ at + size Members ≤ length (now members) ⌝ }
     ensures { λ r. ⌜ (r ≡ memberNumber (take (size Members) (drop at (now (members .entry))))) × (r < 2 ^ 24) ⌝ }
 {
-    let member = member_at(members, at);
-    unit_number(member_device(member), member_unit(member))
+    let member = layouts::member_at(members, at);
+    layouts::unit_number(layouts::member_device(member), layouts::member_unit(member))
 }
 
 // Does the bind match the message? Its source device, source unit, UID and interface type must equal the message's.
 fn bind_matches(f: Fields, bind: [u8; 8]) -> bool
     ensures { λ r. ⌜ r ≡ bindMatches f bind ⌝ }
 {
-    let source = bind_from(bind) == sender(f);
-    let uid = bind_uid(bind) == f.uid;
-    let role = bind_role(bind) == f.interface_type;
+    let source = layouts::bind_from(bind) == sender(f);
+    let uid = layouts::bind_uid(bind) == f.uid;
+    let role = layouts::bind_role(bind) == f.interface_type;
     source & uid & role
 }
 
@@ -83,7 +69,7 @@ fn is_match(binds: &[u8], at: usize, f: Fields) -> bool
     ensures { λ r. ⌜ r ≡ passes (bindMatches f) (take (size Binds) (drop at (now (binds .entry)))) ⌝ }
 {
     let free = records::free_at(binds, BIND, at);
-    !free & bind_matches(f, bind_at(binds, at))
+    !free & bind_matches(f, layouts::bind_at(binds, at))
 }
 
 // The recipients so far stand in the lent list; their number is carried forward and handed back (document 01, Recipients).
@@ -105,10 +91,10 @@ impl Recipients {
         ensures { λ r. ⌜ Taken (u ∷ []) (self .count) (now (list .entry)) (r .count) (now (list .exit)) ⌝ }
     {
         let n = self.count;
-        if listed(list, n, u) {
+        if units::listed(list, n, u) {
             return self;
         }
-        append(list, n, u);
+        units::append(list, n, u);
         Recipients { count: n + 1 }
     }
 
@@ -170,10 +156,10 @@ impl Recipients {
         ensures { λ r. ⌜ Taken (leaving except (reached (table Members (now (members .entry))) bind))
             (self .count) (now (list .entry)) (r .count) (now (list .exit)) ⌝ }
     {
-        if to_group(bind) {
-            return self.take_members(list, members, bound_group(bind), except);
+        if layouts::to_group(bind) {
+            return self.take_members(list, members, layouts::bound_group(bind), except);
         }
-        self.take_unless(list, except, bind_to(bind))
+        self.take_unless(list, except, layouts::bind_to(bind))
     }
 
     // .. where the bind at `at` is used and matches the message.
@@ -194,7 +180,7 @@ impl Recipients {
         if !is_match(binds, at, f) {
             return self;
         }
-        self.take_reached(list, members, bind_at(binds, at), except)
+        self.take_reached(list, members, layouts::bind_at(binds, at), except)
     }
 
     // Whom the binds reach that match the message.

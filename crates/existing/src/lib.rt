@@ -2,7 +2,6 @@
 use layouts::DEVICE;
 use layouts::GROUP;
 use layouts::HIGHEST_UNIT;
-use layouts::address_octets;
 use words::DeviceAddress;
 use words::GroupAddress;
 ghost use Rattle.words.specs.Basics.{_≡_, _+_, _≤_, length, take, drop};
@@ -19,7 +18,7 @@ fn has_address(octets: &[u8], size: usize, address: u16) -> bool
     requires { ⌜ 2 ≤ size ⌝ }
     ensures { λ r. ⌜ r ≡ any (addressed address) (used (records size (now (octets .entry)))) ⌝ }
 {
-    records::has(octets, size, 0, &address_octets(address))
+    records::has(octets, size, 0, &layouts::address_octets(address))
 }
 
 // Is the device in the table?
@@ -34,7 +33,7 @@ fn unit_at(devices: &[u8], at: usize, device: DeviceAddress, unit: u8) -> bool
     requires { ⌜ at + size Devices ≤ length (now devices) ⌝ }
     ensures { λ r. ⌜ r ≡ passes (hasUnit device unit) (take (size Devices) (drop at (now (devices .entry)))) ⌝ }
 {
-    let this = records::matches_at(devices, DEVICE, at, 0, &address_octets(device.0));
+    let this = records::matches_at(devices, DEVICE, at, 0, &layouts::address_octets(device.0));
     this & (unit <= devices[at + HIGHEST_UNIT])
 }
 
@@ -69,7 +68,7 @@ pub fn has_rights(devices: &[u8], device: DeviceAddress) -> bool
     if device.0 == DeviceAddress::CONCENTRATOR.0 {
         return true;
     }
-    let a = address_octets(device.0);
+    let a = layouts::address_octets(device.0);
     records::has(devices, DEVICE, 0, &[a[0], a[1], 1])
 }
 

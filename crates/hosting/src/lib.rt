@@ -3,7 +3,6 @@ use layouts::BIND;
 use layouts::DEVICE;
 use layouts::MEMBER;
 use layouts::MEMBER_DEVICE;
-use layouts::address_octets;
 use words::BindPart;
 use words::DeviceAddress;
 use words::Outcome;
@@ -62,7 +61,7 @@ fn free_binds(binds: &mut [u8], device: DeviceAddress)
     requires { ⌜ length (now binds) % size Binds ≡ 0 ⌝ }
     ensures { λ _. ⌜ now (binds .exit) ≡ written (size Binds) (wipe (namesDevice device)) (now (binds .entry)) ⌝ }
 {
-    let address = address_octets(device.0);
+    let address = layouts::address_octets(device.0);
     let source = layouts::part_start(BindPart::Source);
     let destination = layouts::part_start(BindPart::Destination);
     records::free_matching(binds, BIND, source, &address);
@@ -76,7 +75,7 @@ fn free_device(devices: &mut [u8], binds: &mut [u8], members: &mut [u8], device:
         × (now (binds .exit) ≡ written (size Binds) (releasing device Binds) (now (binds .entry)))
         × (now (members .exit) ≡ written (size Members) (releasing device Members) (now (members .entry))) ⌝ }
 {
-    let address = address_octets(device.0);
+    let address = layouts::address_octets(device.0);
     records::free_matching(devices, DEVICE, 0, &address);
     records::free_matching(members, MEMBER, MEMBER_DEVICE, &address);
     free_binds(binds, device);

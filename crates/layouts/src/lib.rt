@@ -2,7 +2,6 @@
 // knows the place of a field.
 mod binds;
 mod members;
-mod sizes;
 
 pub use binds::DESTINATION;
 pub use binds::SOURCE;
@@ -24,14 +23,13 @@ pub use members::member_at;
 pub use members::member_device;
 pub use members::member_group;
 pub use members::member_unit;
-pub use sizes::Shape;
-pub use sizes::shape_of;
 use words::DeviceAddress;
 use words::GroupAddress;
+use words::Kind;
 ghost use Rattle.words.specs.Basics.{_≡_, _+_, _^_, _<_, _≤_, length};
 ghost use Rattle.rules.specs.Octets.{octets};
 ghost use Rattle.rules.specs.Units.{unitNumber, unitAt};
-ghost use Rattle.rules.specs.Layout.{deviceRecord, groupRecord, longestName};
+ghost use Rattle.rules.specs.Layout.{size, most, key, deviceRecord, groupRecord, longestName};
 
 // The octets of a record in each table.
 pub const DEVICE: usize = 4;
@@ -67,6 +65,43 @@ pub const MEMBER_DEVICE: usize = 2;
 
 // The most octets of a name.
 pub const LONGEST_NAME: u8 = 13;
+
+// The octets of a record, how many records there may be, and how many octets must not be there twice: the address in devices and groups, the record in
+// binds and members.
+pub struct Shape {
+    pub size: usize,
+    pub most: usize,
+    pub key: usize,
+}
+
+pub fn shape_of(kind: Kind) -> Shape
+    ensures size { λ r. ⌜ r .size ≡ size kind ⌝ }
+    ensures most { λ r. ⌜ r .most ≡ most kind ⌝ }
+    ensures key { λ r. ⌜ r .key ≡ key kind ⌝ }
+{
+    match kind {
+        Kind::Devices => Shape {
+            size: DEVICE,
+            most: MOST_DEVICES,
+            key: ADDRESS,
+        },
+        Kind::Binds => Shape {
+            size: BIND,
+            most: MOST_BINDS,
+            key: BIND,
+        },
+        Kind::Groups => Shape {
+            size: GROUP,
+            most: MOST_GROUPS,
+            key: ADDRESS,
+        },
+        Kind::Members => Shape {
+            size: MEMBER,
+            most: MOST_MEMBERS,
+            key: MEMBER,
+        },
+    }
+}
 
 // An address as a record begins with it.
 pub fn address_octets(w: u16) -> [u8; 2]

@@ -1,5 +1,4 @@
 // "Tables are sound if" (document 01, Tables): each rule is one check, over any table.
-use layouts::shape_of;
 use words::Kind;
 ghost use Rattle.words.specs.Basics.{_≡_, _<_, _≤_, length};
 ghost use Rattle.rules.specs.Types.{Devices, Groups};
@@ -14,7 +13,7 @@ ghost use Rattle.soundness.specs.Asking.{freeOr, notAgain};
 fn whole_records(kind: Kind, given: &[u8]) -> bool
     ensures { λ r. ⌜ r ≡ wholeRecords kind (now (given .entry)) ⌝ }
 {
-    let shape = shape_of(kind);
+    let shape = layouts::shape_of(kind);
     (given.len() % shape.size == 0) & (given.len() <= shape.most * shape.size)
 }
 
@@ -34,7 +33,7 @@ fn all_fit(kind: Kind, given: &[u8], devices: &[u8], groups: &[u8]) -> bool
     ensures { λ r. ⌜ r ≡ all (fits kind (table Devices (now (devices .entry))) (table Groups (now (groups .entry))))
         (used (table kind (now (given .entry)))) ⌝ }
 {
-    let shape = shape_of(kind);
+    let shape = layouts::shape_of(kind);
     let size = shape.size;
     let mut at = 0;
     while size <= given.len() - at {
@@ -80,7 +79,7 @@ fn table_sound(kind: Kind, given: &[u8], devices: &[u8], groups: &[u8]) -> bool
     if !whole_records(kind, given) {
         return false;
     }
-    let shape = shape_of(kind);
+    let shape = layouts::shape_of(kind);
     let fit = all_fit(kind, given, devices, groups);
     let once = distinct(given, shape.size, shape.key);
     fit & once

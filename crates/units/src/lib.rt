@@ -1,7 +1,6 @@
 // Units in a lent list (document 01, Outcomes and Recipients), 3 octets each: read, written, looked for, and put in order.
 mod rising;
 
-use layouts::unit_at;
 pub use rising::order;
 ghost use Rattle.words.specs.Basics.{_≡_, _+_, _*_, _^_, _<_, _≤_, length, sets};
 ghost use Rattle.rules.specs.Lists.{has};
@@ -31,7 +30,7 @@ pub fn listed(list: &[u8], n: usize, u: u32) -> bool
 {
     let mut i = 0;
     while i < n {
-        if unit_at(list, 3 * i) == u {
+        if layouts::unit_at(list, 3 * i) == u {
             return true;
         }
         i += 1;
