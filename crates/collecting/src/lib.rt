@@ -5,11 +5,10 @@ use words::Fields;
 use words::GroupAddress;
 ghost use Rattle.words.specs.Basics.{_≡_, [], _∷_, _+_, _^_, _<_, _≤_, length, take, drop};
 ghost use Rattle.rules.specs.Types.{Binds, Members};
-ghost use Rattle.rules.specs.Layout.{size, memberNumber, inGroup};
+ghost use Rattle.rules.specs.Layout.{size};
 ghost use Rattle.rules.specs.Frame.{table};
 ghost use Rattle.rules.specs.Message.{sender};
-ghost use Rattle.rules.specs.Recipients.{bindMatches, reached};
-ghost use Rattle.records.specs.Search.{passes};
+ghost use Rattle.rules.specs.Recipients.{reached};
 ghost use Rattle.units.specs.Listing.{Taken, Enough};
 ghost use Rattle.collecting.specs.Leaving.{leftOut, leaving, membersBut, boundBut};
 
@@ -27,49 +26,6 @@ fn left_out(except: Except, u: u32) -> bool
         Except::Nobody => false,
         Except::Sender(s) => u == s,
     }
-}
-
-// The sender's number.
-pub fn sender(f: Fields) -> u32
-    ensures { λ r. ⌜ r ≡ sender f ⌝ }
-{
-    layouts::unit_number(f.source, f.source_unit)
-}
-
-// Is the record at `at` used, and of this group?
-fn is_member(members: &[u8], at: usize, group: GroupAddress) -> bool
-    requires { ⌜ at + size Members ≤ length (now members) ⌝ }
-    ensures { λ r. ⌜ r ≡ passes (inGroup group) (take (size Members) (drop at (now (members .entry)))) ⌝ }
-{
-    records::matches_at(members, MEMBER, at, 0, &layouts::address_octets(group.0))
-}
-
-// The member in the record at `at`, as one number.
-fn member_number(members: &[u8], at: usize) -> u32
-    requires { ⌜ at + size Members ≤ length (now members) ⌝ }
-    ensures { λ r. ⌜ (r ≡ memberNumber (take (size Members) (drop at (now (members .entry))))) × (r < 2 ^ 24) ⌝ }
-{
-    let member = layouts::member_at(members, at);
-    layouts::unit_number(layouts::member_device(member), layouts::member_unit(member))
-}
-
-// Does the bind match the message? Its source device, source unit, UID and interface type must equal the message's.
-fn bind_matches(f: Fields, bind: [u8; 8]) -> bool
-    ensures { λ r. ⌜ r ≡ bindMatches f bind ⌝ }
-{
-    let source = layouts::bind_from(bind) == sender(f);
-    let uid = layouts::bind_uid(bind) == f.uid;
-    let role = layouts::bind_role(bind) == f.interface_type;
-    source & uid & role
-}
-
-// Is the record at `at` used, and does it match the message?
-fn is_match(binds: &[u8], at: usize, f: Fields) -> bool
-    requires { ⌜ at + size Binds ≤ length (now binds) ⌝ }
-    ensures { λ r. ⌜ r ≡ passes (bindMatches f) (take (size Binds) (drop at (now (binds .entry)))) ⌝ }
-{
-    let free = records::free_at(binds, BIND, at);
-    !free & bind_matches(f, layouts::bind_at(binds, at))
 }
 
 // The recipients so far stand in the lent list; their number is carried forward and handed back (document 01, Recipients).
@@ -123,10 +79,10 @@ impl Recipients {
         ensures { λ r. ⌜ Taken (membersBut except group (take (size Members) (drop at (now (members .entry))) ∷ []))
             (self .count) (now (list .entry)) (r .count) (now (list .exit)) ⌝ }
     {
-        if !is_member(members, at, group) {
+        if !matching::is_member(members, at, group) {
             return self;
         }
-        self.take_unless(list, except, member_number(members, at))
+        self.take_unless(list, except, matching::member_number(members, at))
     }
 
     // The members of a group (document 01, Recipients; Commands and codes, Get Group Info).
@@ -177,7 +133,7 @@ impl Recipients {
         ensures { λ r. ⌜ Taken (boundBut except f (table Members (now (members .entry))) (take (size Binds) (drop at (now (binds .entry))) ∷ []))
             (self .count) (now (list .entry)) (r .count) (now (list .exit)) ⌝ }
     {
-        if !is_match(binds, at, f) {
+        if !matching::is_match(binds, at, f) {
             return self;
         }
         self.take_reached(list, members, layouts::bind_at(binds, at), except)

@@ -1,8 +1,8 @@
--- `collecting::sender` meets its contract. The number of the source device and unit.
+-- `matching::sender` meets its contract. The number of the source device and unit.
 use Rattle.words.specs.Basics.{needs}
 use Rattle.rules.specs.Message.{sender}
-use Rattle.collecting.proofs.sender.Statement.{statement}
-use Rattle.collecting.proofs.sender.Tie as tie
+use Rattle.matching.proofs.sender.Statement.{statement}
+use Rattle.matching.proofs.sender.Tie as tie
 
 returns : tie.Need-returns
 unfolding sender

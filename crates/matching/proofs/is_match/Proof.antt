@@ -1,8 +1,8 @@
--- `collecting::is_match` meets its contract. A free record matches no message.
+-- `matching::is_match` meets its contract. A free record matches no message.
 use Rattle.words.specs.Basics.{needs}
 use Rattle.records.specs.Search.{passes}
-use Rattle.collecting.proofs.is_match.Statement.{statement}
-use Rattle.collecting.proofs.is_match.Tie as tie
+use Rattle.matching.proofs.is_match.Statement.{statement}
+use Rattle.matching.proofs.is_match.Tie as tie
 
 returns : tie.Need-returns
 unfolding passes

@@ -1,8 +1,8 @@
--- `collecting::member_number` meets its contract. Device and unit make the member's number.
+-- `matching::member_number` meets its contract. Device and unit make the member's number.
 use Rattle.words.specs.Basics.{_∙_, needs}
 use Rattle.rules.specs.Units.{unitAt}
-use Rattle.collecting.proofs.member_number.Statement.{statement}
-use Rattle.collecting.proofs.member_number.Tie as tie
+use Rattle.matching.proofs.member_number.Statement.{statement}
+use Rattle.matching.proofs.member_number.Tie as tie
 
 returns : tie.Need-returns
 unfolding unitAt

@@ -1,13 +1,13 @@
--- `collecting::bind_matches` meets its contract. Source device and unit are compared as one number.
+-- `matching::bind_matches` meets its contract. Source device and unit are compared as one number.
 use mir.Syntax.{w8}
 use mir.Val.{Fits}
 use Rattle.words.specs.Basics.{arith, needs}
 use Rattle.rules.specs.Lists.{_&_}
 use Rattle.rules.specs.Layout.{bindSourceUnit}
 use Rattle.rules.specs.Recipients.{bindMatches}
-use Rattle.collecting.proofs.Collecting.{source-same}
-use Rattle.collecting.proofs.bind_matches.Statement.{statement}
-use Rattle.collecting.proofs.bind_matches.Tie as tie
+use Rattle.matching.proofs.Matching.{source-same}
+use Rattle.matching.proofs.bind_matches.Statement.{statement}
+use Rattle.matching.proofs.bind_matches.Tie as tie
 
 -- the bind's source unit is below 256
 unit : (c : tie.Start) → Fits w8 (bindSourceUnit (c .args .bind))

@@ -1,9 +1,9 @@
--- `collecting::is_member` meets its contract. A group's address is the first two octets of a member.
+-- `matching::is_member` meets its contract. A group's address is the first two octets of a member.
 use Rattle.words.specs.Basics.{_∙_, needs}
 use Rattle.rules.specs.Tables.{addressed}
 use Rattle.records.specs.Search.{passes}
-use Rattle.collecting.proofs.is_member.Statement.{statement}
-use Rattle.collecting.proofs.is_member.Tie as tie
+use Rattle.matching.proofs.is_member.Statement.{statement}
+use Rattle.matching.proofs.is_member.Tie as tie
 
 returns : tie.Need-returns
 unfolding passes addressed

@@ -1,0 +1,54 @@
+// Which records a message is about (document 01, Recipients): the binds that match it, the members of a group.
+use layouts::BIND;
+use layouts::MEMBER;
+use words::Fields;
+use words::GroupAddress;
+ghost use Rattle.words.specs.Basics.{_≡_, _+_, _^_, _<_, _≤_, length, take, drop};
+ghost use Rattle.rules.specs.Types.{Binds, Members};
+ghost use Rattle.rules.specs.Layout.{size, memberNumber, inGroup};
+ghost use Rattle.rules.specs.Message.{sender};
+ghost use Rattle.rules.specs.Recipients.{bindMatches};
+ghost use Rattle.records.specs.Search.{passes};
+
+// The sender's number.
+pub fn sender(f: Fields) -> u32
+    ensures { λ r. ⌜ r ≡ sender f ⌝ }
+{
+    layouts::unit_number(f.source, f.source_unit)
+}
+
+// Is the record at `at` used, and of this group?
+pub fn is_member(members: &[u8], at: usize, group: GroupAddress) -> bool
+    requires { ⌜ at + size Members ≤ length (now members) ⌝ }
+    ensures { λ r. ⌜ r ≡ passes (inGroup group) (take (size Members) (drop at (now (members .entry)))) ⌝ }
+{
+    records::matches_at(members, MEMBER, at, 0, &layouts::address_octets(group.0))
+}
+
+// The member in the record at `at`, as one number.
+pub fn member_number(members: &[u8], at: usize) -> u32
+    requires { ⌜ at + size Members ≤ length (now members) ⌝ }
+    ensures { λ r. ⌜ (r ≡ memberNumber (take (size Members) (drop at (now (members .entry))))) × (r < 2 ^ 24) ⌝ }
+{
+    let member = layouts::member_at(members, at);
+    layouts::unit_number(layouts::member_device(member), layouts::member_unit(member))
+}
+
+// Does the bind match the message? Its source device, source unit, UID and interface type must equal the message's.
+pub fn bind_matches(f: Fields, bind: [u8; 8]) -> bool
+    ensures { λ r. ⌜ r ≡ bindMatches f bind ⌝ }
+{
+    let source = layouts::bind_from(bind) == sender(f);
+    let uid = layouts::bind_uid(bind) == f.uid;
+    let role = layouts::bind_role(bind) == f.interface_type;
+    source & uid & role
+}
+
+// Is the record at `at` used, and does it match the message?
+pub fn is_match(binds: &[u8], at: usize, f: Fields) -> bool
+    requires { ⌜ at + size Binds ≤ length (now binds) ⌝ }
+    ensures { λ r. ⌜ r ≡ passes (bindMatches f) (take (size Binds) (drop at (now (binds .entry)))) ⌝ }
+{
+    let free = records::free_at(binds, BIND, at);
+    !free & bind_matches(f, layouts::bind_at(binds, at))
+}
