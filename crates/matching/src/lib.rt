@@ -35,7 +35,7 @@ pub fn member_number(members: &[u8], at: usize) -> u32
 }
 
 // Does the bind match the message? Its source device, source unit, UID and interface type must equal the message's.
-pub fn bind_matches(f: Fields, bind: [u8; 8]) -> bool
+fn bind_matches(f: Fields, bind: [u8; 8]) -> bool
     ensures { λ r. ⌜ r ≡ bindMatches f bind ⌝ }
 {
     let source = layouts::bind_from(bind) == sender(f);

@@ -1,5 +1,4 @@
 -- The laws that the proofs of this crate and of those above it cite.
 pub mod Reading
 pub mod Replies
-pub mod Copies
 pub mod Once

@@ -1,16 +1,15 @@
-// The message (document 01, The message): reading it, what its fields say, the header of a reply, and copies.
+// The message (document 01, The message): reading it, what its fields say, and the header of a reply.
 use words::Destination;
 use words::DeviceAddress;
 use words::Fields;
 use words::GroupAddress;
 use words::Outcome;
 use words::Reading;
-ghost use Rattle.words.specs.Basics.{_≡_, [], _∷_, _++_, _+_, _-_, _≤_, eqb, leb, length};
+ghost use Rattle.words.specs.Basics.{_≡_, _+_, _-_, _≤_, eqb, leb, length};
 ghost use Rattle.words.specs.Names.{noFields, headerLength, longest, commandType, lastType};
 ghost use Rattle.rules.specs.Lists.{_&_};
 ghost use Rattle.rules.specs.Octets.{octets, over};
 ghost use Rattle.rules.specs.Message.{fields, destination, response, lengthFits, readingOf, reading, header, answering};
-ghost use Rattle.rules.specs.Copy.{copied, copyFits, copyAnswer, copy};
 ghost use Rattle.messages.specs.Ranges.{Ranged};
 
 // What a message says in its first fifteen octets; reserved bits and transport are ignored. A data length has nine bits.
@@ -170,45 +169,4 @@ pub fn write_header(lent: &mut [u8], request: Fields, n: usize)
 {
     let header = header_octets(answering(request, n as u16));
     octets::put(lent, &header);
-}
-
-// Outcome 19: the room, the device and the unit that a copy needs.
-fn copy_fits(message: &[u8], room: &[u8], device: DeviceAddress, unit: u8) -> bool
-    ensures { λ r. ⌜ r ≡ copyFits (now (message .entry)) (now (room .entry)) device unit ⌝ }
-{
-    (message.len() <= room.len())
-        & (device.0 <= DeviceAddress::HIGHEST)
-        & (unit != DeviceAddress::ANY_UNIT)
-}
-
-// Octets 4 to 6 of a copy: type 0, device, unit.
-fn destination_octets(device: DeviceAddress, unit: u8) -> [u8; 3]
-    ensures { λ r. ⌜ r ≡ octets (device .0) ++ unit ∷ [] ⌝ }
-{
-    [octets::high(device.0), octets::low(device.0), unit]
-}
-
-// Writes the copy: the message, and then its octets 4 to 6 anew.
-fn write_copy(message: &[u8], room: &mut [u8], device: DeviceAddress, unit: u8)
-    requires { ⌜ (headerLength ≤ length (now message)) × (length (now message) ≤ length (now room)) ⌝ }
-    ensures { λ _. ⌜ now (room .exit) ≡ over (copied (now (message .entry)) device unit) (now (room .entry)) ⌝ }
-{
-    let to = destination_octets(device, unit);
-    octets::put(room, message);
-    octets::write_at(room, 3, &to);
-}
-
-// Copies a message to one unit of a device (document 01, Recipients). Octets of the room past the copy stay.
-pub fn copy(message: &[u8], room: &mut [u8], device: DeviceAddress, unit: u8) -> Outcome
-    ensures { λ r. ⌜ copyAnswer r (now (room .exit)) ≡ copy (now (message .entry)) (now (room .entry)) device unit ⌝ }
-{
-    let outcome = read(message).outcome;
-    if outcome.number() != 0 {
-        return outcome;
-    }
-    if !copy_fits(message, room, device, unit) {
-        return Outcome::NoCopy;
-    }
-    write_copy(message, room, device, unit);
-    Outcome::Done(message.len())
 }

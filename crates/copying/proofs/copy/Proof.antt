@@ -1,9 +1,9 @@
--- `messages::copy` meets its contract. The outcome's number says whether the message can be read; then the copy fits or does not.
+-- `copying::copy` meets its contract. The outcome's number says whether the message can be read; then the copy fits or does not.
 use Rattle.words.specs.Basics.{needs}
 use Rattle.messages.proofs.Reading.{read-long}
-use Rattle.messages.proofs.Copies.{copy-refused, copy-unfit, copy-done, copy-room}
-use Rattle.messages.proofs.copy.Statement.{statement}
-use Rattle.messages.proofs.copy.Tie as tie
+use Rattle.copying.proofs.Copies.{copy-refused, copy-unfit, copy-done, copy-room}
+use Rattle.copying.proofs.copy.Statement.{statement}
+use Rattle.copying.proofs.copy.Tie as tie
 
 returns : tie.Need-returns
 returns c = copy-refused _ _ _ _ (c .before .before .read .ensures) (c .before .number .ensures) (c .if1 .taken)

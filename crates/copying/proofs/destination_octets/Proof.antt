@@ -1,8 +1,8 @@
--- `messages::destination_octets` meets its contract. The octets are the definition's.
+-- `copying::destination_octets` meets its contract. The octets are the definition's.
 use Rattle.words.specs.Basics.{needs}
 use Rattle.rules.specs.Octets.{octets}
-use Rattle.messages.proofs.destination_octets.Statement.{statement}
-use Rattle.messages.proofs.destination_octets.Tie as tie
+use Rattle.copying.proofs.destination_octets.Statement.{statement}
+use Rattle.copying.proofs.destination_octets.Tie as tie
 
 returns : tie.Need-returns
 unfolding octets

@@ -1,8 +1,8 @@
--- `messages::write_copy` meets its contract. Octets stored in what was written over are stored in the message.
+-- `copying::write_copy` meets its contract. Octets stored in what was written over are stored in the message.
 use Rattle.words.specs.Basics.{_∙_, needs}
-use Rattle.messages.proofs.Copies.{copied-over}
-use Rattle.messages.proofs.write_copy.Statement.{statement}
-use Rattle.messages.proofs.write_copy.Tie as tie
+use Rattle.copying.proofs.Copies.{copied-over}
+use Rattle.copying.proofs.write_copy.Statement.{statement}
+use Rattle.copying.proofs.write_copy.Tie as tie
 
 returns : tie.Need-returns
 returns c =
