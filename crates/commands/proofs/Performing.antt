@@ -12,7 +12,8 @@ use Rattle.rules.specs.Commands.{row, rightsFit, payloadFits, judge, onOk, done
 use Rattle.rules.proofs.Lists.{ask-pass, ask-fail}
 use Rattle.rules.proofs.Frames.{changed-nothing, replaced, changed-only, replaced-same}
 use Rattle.changing.specs.Changing.{Coded, coded, coding}
-use Rattle.group_commands.specs.Grouping.{Deleted, deleted, deleting, Made, made, making}
+use Rattle.creating.specs.Creating.{Made, made, making}
+use Rattle.group_commands.specs.Grouping.{Deleted, deleted, deleting}
 use Rattle.group_info.specs.Informing.{informing}
 use Rattle.commands.specs.Perform.{performed, performing}
 

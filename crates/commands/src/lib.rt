@@ -36,7 +36,7 @@ fn act(
             let code = bind_commands::remove_binds(binds, part, payload);
             changing::write_code(out, code)
         }
-        Command::CreateGroup => group_commands::create(groups, payload, out),
+        Command::CreateGroup => creating::create(groups, payload, out),
         Command::DeleteGroup => {
             let code = group_commands::delete_group(binds, groups, members, payload);
             changing::write_code(out, code)

@@ -2,7 +2,7 @@
 use Rattle.words.specs.Basics.{List, [], ℕ, _≤_, length}
 use Rattle.words.specs.Names.{longest}
 use Rattle.rules.specs.Types.{Fields}
-use Rattle.rules.specs.Frame.{Lent, made}
+use Rattle.rules.specs.Frame.{Lent, lentBy}
 use Rattle.messages.specs.Ranges.{Ranged}
 use Rattle.commands.specs.Perform.{Workable}
 
@@ -14,4 +14,4 @@ pub record Servable (ds bs gs ms : List ℕ) (f : Fields) (reply : List ℕ) : T
 
 -- forwarding is lent no table to change
 abbrev pub nothingLent : Lent
-nothingLent = made (λ k. [])
+nothingLent = lentBy (λ k. [])

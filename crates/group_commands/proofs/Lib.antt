@@ -1,3 +1,2 @@
 -- The laws that the proofs of this crate and of those above it cite.
 pub mod Grouped
-pub mod Smallest

@@ -5,7 +5,7 @@ use Rattle.rules.specs.Types.{Kind, Devices, Binds, Groups, Members}
 use Rattle.rules.specs.Lists.{all, _&_}
 use Rattle.rules.specs.Tables.{Change, none, written}
 use Rattle.rules.specs.Layout.{size, key, full}
-use Rattle.rules.specs.Frame.{Lent, made, lentOf, each, kinds, everyTable, place, also, Effect, nothing, only, changed}
+use Rattle.rules.specs.Frame.{Lent, lentBy, lentOf, each, kinds, everyTable, place, also, Effect, nothing, only, changed}
 use Rattle.rules.proofs.Lists.{split, all-at, all-of}
 
 -- every kind stands in the list of kinds, at its place
@@ -39,12 +39,12 @@ shapes k =
     let b = split (a .0) in
     (leb-true 1 (size k) (b .0), leb-true (full k) 640 (b .1), leb-true (key k) (size k) (a .1))
 
--- one table of those made
-pub lent-made : (t : Kind → List ℕ) (k : Kind) → lentOf k (made t) ≡ t k
-lent-made t Devices = refl
-lent-made t Binds = refl
-lent-made t Groups = refl
-lent-made t Members = refl
+-- one table of a frame by kind
+pub lent-by : (t : Kind → List ℕ) (k : Kind) → lentOf k (lentBy t) ≡ t k
+lent-by t Devices = refl
+lent-by t Binds = refl
+lent-by t Groups = refl
+lent-by t Members = refl
 
 -- what holds of a and b for the table k, and of x and y for every table, holds of a beside x and b beside y
 pub also-both : {A B : Type 0} (P : Kind → A → B → Type 0) (k : Kind) (a : A) (b : B) (x : Kind → A) (y : Kind → B)
@@ -69,7 +69,7 @@ changed-nothing L = refl
 
 pub lent-changed : (x : Effect) (L : Lent) (k : Kind) → lentOf k (changed x L) ≡ written (size k) (x k) (lentOf k L)
 unfolding changed
-lent-changed x L k = lent-made (λ j. written (size j) (x j) (lentOf j L)) k
+lent-changed x L k = lent-by (λ j. written (size j) (x j) (lentOf j L)) k
 
 -- the frame with another table k
 unfoldable pub replaced : Kind → List ℕ → Lent → Lent
@@ -77,7 +77,7 @@ replaced k t L = each (λ j s. also k t (λ i. lentOf i L) j) L
 
 -- two ways to make each table anew that agree make one frame
 each-same : (f g : Kind → List ℕ → List ℕ) (L : Lent) → ((k : Kind) → f k (lentOf k L) ≡ g k (lentOf k L)) → each f L ≡ each g L
-each-same f g L e = ap made (fun-ext e)
+each-same f g L e = ap lentBy (fun-ext e)
 
 -- an effect on one table leaves the others
 pub changed-only : (k : Kind) (c : Change) (L : Lent) → changed (only k c) L ≡ replaced k (written (size k) c (lentOf k L)) L

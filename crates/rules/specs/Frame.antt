@@ -17,8 +17,8 @@ abbrev pub lent : List ℕ → List ℕ → List ℕ → List ℕ → Lent
 lent ds bs gs ms = record { devices = ds; binds = bs; groups = gs; members = ms }
 
 -- .. by kind
-abbrev pub made : (Kind → List ℕ) → Lent
-made t = lent (t Devices) (t Binds) (t Groups) (t Members)
+abbrev pub lentBy : (Kind → List ℕ) → Lent
+lentBy t = lent (t Devices) (t Binds) (t Groups) (t Members)
 
 -- one of them
 abbrev pub lentOf : Kind → Lent → List ℕ
@@ -29,7 +29,7 @@ lentOf Members L = L .members
 
 -- each of them, made anew
 abbrev pub each : (Kind → List ℕ → List ℕ) → Lent → Lent
-each f L = made (λ k. f k (lentOf k L))
+each f L = lentBy (λ k. f k (lentOf k L))
 
 -- their order as arguments
 abbrev pub kinds : List Kind

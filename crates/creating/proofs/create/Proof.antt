@@ -1,8 +1,8 @@
--- `group_commands::create` meets its contract: what `create_group` and `write_created` answer, at the new address.
+-- `creating::create` meets its contract: what `create_group` and `write_created` answer, at the new address.
 use Rattle.words.specs.Basics.{needs}
-use Rattle.group_commands.proofs.Grouped.{makes}
-use Rattle.group_commands.proofs.create.Statement.{statement}
-use Rattle.group_commands.proofs.create.Tie as tie
+use Rattle.creating.proofs.Created.{makes}
+use Rattle.creating.proofs.create.Statement.{statement}
+use Rattle.creating.proofs.create.Tie as tie
 
 returns : tie.Need-returns
 returns c =

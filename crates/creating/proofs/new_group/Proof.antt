@@ -1,8 +1,8 @@
--- `group_commands::new_group` meets its contract. The loop counts up as long as addresses are in use, and ends after as many as there are records.
+-- `creating::new_group` meets its contract. The loop counts up as long as addresses are in use, and ends after as many as there are records.
 use Rattle.words.specs.Basics.{sym, _∙_, arith, now, not-true, not-false, needs}
-use Rattle.group_commands.proofs.Smallest.{Numbering, numbering-start, numbering-more, numbering-hit, numbering-end}
-use Rattle.group_commands.proofs.new_group.Statement.{statement}
-use Rattle.group_commands.proofs.new_group.Tie as tie
+use Rattle.creating.proofs.Smallest.{Numbering, numbering-start, numbering-more, numbering-hit, numbering-end}
+use Rattle.creating.proofs.new_group.Statement.{statement}
+use Rattle.creating.proofs.new_group.Tie as tie
 
 abbrev Inv-loop : tie.InvT-loop
 Inv-loop groups address₀ left₀ address left = Numbering groups address left

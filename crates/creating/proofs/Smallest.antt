@@ -1,6 +1,6 @@
 -- The loop that looks for the smallest group address not in use: of the addresses from here on it finds what it would find from the first.
 use native.Mathlib.Numerals.{add-one}
-use Rattle.words.specs.Basics.{_≡_, Bool, true, false, cond, List, ℕ, zero, suc, _+_, _-_, _*_, _/_, _<_, _≤_, arith, length}
+use Rattle.words.specs.Basics.{_≡_, Bool, true, false, cond, List, ℕ, zero, suc, _+_, _-_, _/_, _<_, _≤_, arith, length}
 use Rattle.words.specs.Names.{group, lowest}
 use Rattle.rules.specs.Types.{Groups}
 use Rattle.rules.specs.Layout.{size, most, full}

@@ -1,11 +1,11 @@
--- `group_commands::create_group` meets its contract: the record is stored where the code is 0x00, and only there.
+-- `creating::create_group` meets its contract: the record is stored where the code is 0x00, and only there.
 use Rattle.words.specs.Basics.{arith, now, needs}
 use Rattle.rules.specs.Types.{Groups}
 use Rattle.rules.specs.Frame.{table}
 use Rattle.changing.proofs.Changed.{changes, stays}
-use Rattle.group_commands.proofs.Grouped.{name-fits}
-use Rattle.group_commands.proofs.create_group.Statement.{statement}
-use Rattle.group_commands.proofs.create_group.Tie as tie
+use Rattle.creating.proofs.Created.{name-fits}
+use Rattle.creating.proofs.create_group.Statement.{statement}
+use Rattle.creating.proofs.create_group.Tie as tie
 
 group-record-requires : tie.Need-group-record-requires
 group-record-requires c κs =

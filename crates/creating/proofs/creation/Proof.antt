@@ -1,8 +1,8 @@
--- `group_commands::creation` meets its contract: one check after the other.
+-- `creating::creation` meets its contract: one check after the other.
 use Rattle.words.specs.Basics.{sym, _∙_, not-true, not-false, needs}
-use Rattle.group_commands.proofs.Grouped.{name-too-long, no-group-room, creatable}
-use Rattle.group_commands.proofs.creation.Statement.{statement}
-use Rattle.group_commands.proofs.creation.Tie as tie
+use Rattle.creating.proofs.Created.{name-too-long, no-group-room, creatable}
+use Rattle.creating.proofs.creation.Statement.{statement}
+use Rattle.creating.proofs.creation.Tie as tie
 
 returns-2 : tie.Need-returns-2
 returns-2 c =

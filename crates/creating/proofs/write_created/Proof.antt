@@ -1,9 +1,9 @@
--- `group_commands::write_created` meets its contract: the code, and the address behind 0x00.
+-- `creating::write_created` meets its contract: the code, and the address behind 0x00.
 use Rattle.words.specs.Basics.{refl, eq-eqb, ne-eqb, needs}
 use Rattle.rules.specs.Octets.{octets}
 use Rattle.rules.specs.Commands.{onOk}
-use Rattle.group_commands.proofs.write_created.Statement.{statement}
-use Rattle.group_commands.proofs.write_created.Tie as tie
+use Rattle.creating.proofs.write_created.Statement.{statement}
+use Rattle.creating.proofs.write_created.Tie as tie
 
 returns : tie.Need-returns
 unfolding onOk
