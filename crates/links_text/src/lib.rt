@@ -1,7 +1,7 @@
 // What the program `links` prints for its input, made over lent buffers (document 01, Rows to try).
 use words::Fields;
 ghost use Rattle.words.specs.Basics.{_≤_, length};
-ghost use Rattle.report.specs.Text.{Printed};
+ghost use Rattle.writing.specs.Writing.{Printed};
 ghost use Rattle.links_text.specs.Printing.{allTables, printed};
 
 // The tables at full size.

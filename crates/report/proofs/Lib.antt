@@ -1,4 +1,3 @@
 -- The laws that the proofs of this crate cite, and the rows of the paper.
-pub mod Pieces
-pub mod Decimal
+pub mod Lines
 pub mod Rows

@@ -1,7 +1,8 @@
 -- Texts as document 01 gives them, "Rows to try": first the sample of `links`, whole.
 use Rattle.words.specs.Basics.{_≡_, refl, List, [], _∷_, flatMap, ℕ}
 use Rattle.rules.specs.Types.{Outcome, Done, Forwarded, Nobody, NotAdmitted}
-use Rattle.report.specs.Text.{ascii, digit, decimal, firstLine, hexLine, recipientLines, valueIf, answerText}
+use Rattle.writing.specs.Writing.{ascii, digit, decimal}
+use Rattle.report.specs.Text.{firstLine, hexLine, recipientLines, valueIf, answerText}
 
 pub record Row : Type 0 where
   pub outcome : Outcome

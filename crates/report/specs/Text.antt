@@ -1,35 +1,9 @@
 -- The text that the program `links` prints (document 01, Rows to try), as ASCII octets.
-use Prim.Native.Char.{code}
-use Prim.Native.String.{String, [] as empty, _∷_ as _then_}
-use Rattle.words.specs.Basics.{_≡_, cond, List, [], _∷_, _++_, flatMap, ℕ, zero, suc, _+_, _-_, _*_, _/_, _%_, _≤_, eqb, ltb, length, take, drop, sets}
+use Rattle.words.specs.Basics.{cond, List, [], _++_, flatMap, ℕ, zero, suc, _+_, _-_, _*_, _≤_, eqb, length, take, drop}
 use Rattle.rules.specs.Types.{Outcome}
-use Rattle.rules.specs.Octets.{octet, over}
+use Rattle.rules.specs.Octets.{octet}
 use Rattle.words.specs.Outcomes.{numberOf, valueOf}
-
--- a text's octets
-abbrev pub ascii : String → List ℕ
-ascii empty = []
-ascii (c then s) = code c ∷ ascii s
-
-abbrev pub line : List ℕ → List ℕ
-line s = s ++ ascii "\n"
-
--- a digit: 0 to 9, then A to F
-unfoldable pub digit : ℕ → ℕ
-digit d = cond (ltb d 10) (code "0" + d) (code "A" + (d - 10))
-
--- "two digits an octet"
-abbrev pub hexOctet : ℕ → List ℕ
-hexOctet o = digit (o / 16) ∷ digit (o % 16) ∷ []
-
--- a number's last k decimal digits, without leading zeros
-abbrev pub digits : ℕ → ℕ → List ℕ
-digits zero n = []
-digits (suc k) n = cond (ltb n 10) (digit n ∷ []) (digits k (n / 10) ++ digit (n % 10) ∷ [])
-
--- a number in decimal: 64 bits have 20 digits at most
-unfoldable pub decimal : ℕ → List ℕ
-decimal n = digits 20 n
+use Rattle.writing.specs.Writing.{ascii, line, hexOctet, digits, field}
 
 -- "device and unit in upper-case hex: four digits, a colon, two digits", from a recipient's three octets
 abbrev pub recipientLine : ℕ → ℕ → ℕ → List ℕ
@@ -43,10 +17,6 @@ recipientLines (suc n) l = recipientLine (octet 0 l) (octet 1 l) (octet 2 l) ++ 
 -- "one line gives the reply in upper-case hex, two digits an octet, no spaces"
 unfoldable pub hexLine : List ℕ → List ℕ
 hexLine s = line (flatMap hexOctet s)
-
--- a word and a number
-abbrev pub field : List ℕ → ℕ → List ℕ
-field word n = word ++ decimal n
 
 -- "the outcome, the recipient count"
 unfoldable pub firstLine : ℕ → ℕ → List ℕ
@@ -72,16 +42,6 @@ answerText o reply list =
 -- "Input under 1,664 octets prints `short input` alone"
 abbrev pub shortText : List ℕ
 shortText = line (ascii "short input")
-
--- a piece that fits stands in the text from `at` on, and `next` is the place behind it
-pub record Wrote (piece old : List ℕ) (at next : ℕ) (new : List ℕ) : Type 0 where
-  pub fits : at + length piece ≤ length old
-  pub place : next ≡ at + length piece
-  pub text : new ≡ sets old at piece
-
--- a whole text stands over what the buffer held, and n is its length
-abbrev pub Printed : List ℕ → List ℕ → ℕ → List ℕ → Type 0
-Printed whole old n new = (n ≡ length whole) × (new ≡ over whole old)
 
 -- the lengths that an answer's text asks for: the reply and the list hold what the outcome says, a reply has 500 octets at most, a list 192 recipients
 pub record Room (o : Outcome) (r l t : List ℕ) : Type 0 where

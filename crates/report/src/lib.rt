@@ -1,72 +1,23 @@
-// The text that programs print, written piece by piece into a lent buffer: each writer starts at a place and returns the place behind what it wrote.
+// The text that `links` prints (document 01, Rows to try).
 use words::Outcome;
-ghost use Rattle.words.specs.Basics.{_≡_, flatMap, _+_, _*_, _<_, _≤_, length};
-ghost use Rattle.report.specs.Text.{digit, hexOctet, decimal, field, recipientLine, recipientLines, hexLine, firstLine};
-ghost use Rattle.report.specs.Text.{valueIf, answerText, shortText, Wrote, Printed, Room};
-
-// One digit, for decimal and hex alike.
-fn digit(n: u8) -> u8
-    requires { ⌜ n < 16 ⌝ }
-    ensures { λ r. ⌜ r ≡ digit n ⌝ }
-{
-    if n < 10 { b'0' + n } else { b'A' + (n - 10) }
-}
-
-// The two digits of an octet.
-fn hex_octet(o: u8) -> [u8; 2]
-    ensures { λ r. ⌜ r ≡ hexOctet o ⌝ }
-{
-    [digit(o / 16), digit(o % 16)]
-}
+ghost use Rattle.words.specs.Basics.{_≡_, _+_, _*_, _<_, _≤_, length};
+ghost use Rattle.writing.specs.Writing.{digit, Wrote, Printed};
+ghost use Rattle.report.specs.Text.{recipientLine, recipientLines, hexLine, firstLine, valueIf, answerText, shortText, Room};
 
 // A recipient's line: device, colon, unit.
 fn recipient_line(high: u8, low: u8, unit: u8) -> [u8; 8]
     ensures { λ r. ⌜ r ≡ recipientLine high low unit ⌝ }
 {
     [
-        digit(high / 16),
-        digit(high % 16),
-        digit(low / 16),
-        digit(low % 16),
+        writing::digit(high / 16),
+        writing::digit(high % 16),
+        writing::digit(low / 16),
+        writing::digit(low % 16),
         b':',
-        digit(unit / 16),
-        digit(unit % 16),
+        writing::digit(unit / 16),
+        writing::digit(unit % 16),
         b'\n',
     ]
-}
-
-// Every piece of the text goes through here.
-fn write_run(text: &mut [u8], at: usize, run: &[u8]) -> usize
-    requires { ⌜ at + length (now run) ≤ length (now text) ⌝ }
-    ensures { λ r. ⌜ Wrote (now (run .entry)) (now (text .entry)) at r (now (text .exit)) ⌝ }
-{
-    octets::write_at(text, at, run);
-    at + run.len()
-}
-
-// A number in decimal, without leading zeros.
-fn write_decimal(text: &mut [u8], at: usize, n: u8) -> usize
-    requires { ⌜ at + 3 ≤ length (now text) ⌝ }
-    ensures { λ r. ⌜ Wrote (decimal n) (now (text .entry)) at r (now (text .exit)) ⌝ }
-{
-    let last = digit(n % 10);
-    if n < 10 {
-        return write_run(text, at, &[last]);
-    }
-    let tens = digit(n / 10 % 10);
-    if n < 100 {
-        return write_run(text, at, &[tens, last]);
-    }
-    write_run(text, at, &[digit(n / 100), tens, last])
-}
-
-// A word of the first line and the number behind it.
-fn write_field(text: &mut [u8], at: usize, word: &[u8], n: u8) -> usize
-    requires { ⌜ at + length (now word) + 3 ≤ length (now text) ⌝ }
-    ensures { λ r. ⌜ Wrote (field (now (word .entry)) n) (now (text .entry)) at r (now (text .exit)) ⌝ }
-{
-    let next = write_run(text, at, word);
-    write_decimal(text, next, n)
 }
 
 // The line that every answer has: `outcome N count C`.
@@ -74,24 +25,9 @@ fn write_first_line(text: &mut [u8], number: u8, count: u8) -> usize
     requires { ⌜ 22 ≤ length (now text) ⌝ }
     ensures { λ r. ⌜ Wrote (firstLine number count) (now (text .entry)) 0 r (now (text .exit)) ⌝ }
 {
-    let word = write_field(text, 0, b"outcome ", number);
-    let end = write_field(text, word, b" count ", count);
-    write_run(text, end, b"\n")
-}
-
-// The octets of a reply, two digits each.
-fn write_hex(text: &mut [u8], at: usize, s: &[u8]) -> usize
-    requires { ⌜ at + 2 * length (now s) ≤ length (now text) ⌝ }
-    ensures { λ r. ⌜ Wrote (flatMap hexOctet (now (s .entry))) (now (text .entry)) at r (now (text .exit)) ⌝ }
-{
-    let mut next = at;
-    let mut j = 0;
-    while j < s.len() {
-        let digits = hex_octet(s[j]);
-        next = write_run(text, next, &digits);
-        j += 1;
-    }
-    next
+    let word = writing::write_field(text, 0, b"outcome ", number);
+    let end = writing::write_field(text, word, b" count ", count);
+    writing::write_run(text, end, b"\n")
 }
 
 // The first n recipients of the list, a line each.
@@ -104,7 +40,7 @@ fn write_recipients(text: &mut [u8], at: usize, list: &[u8], n: usize) -> usize
     while i < n {
         let from = 3 * i;
         let line = recipient_line(list[from], list[from + 1], list[from + 2]);
-        next = write_run(text, next, &line);
+        next = writing::write_run(text, next, &line);
         i += 1;
     }
     next
@@ -115,8 +51,8 @@ fn write_reply(text: &mut [u8], at: usize, reply: &[u8]) -> usize
     requires { ⌜ at + 2 * length (now reply) + 1 ≤ length (now text) ⌝ }
     ensures { λ r. ⌜ Wrote (hexLine (now (reply .entry))) (now (text .entry)) at r (now (text .exit)) ⌝ }
 {
-    let end = write_hex(text, at, reply);
-    write_run(text, end, b"\n")
+    let end = writing::write_hex(text, at, reply);
+    writing::write_run(text, end, b"\n")
 }
 
 // The count or length of the outcome that has this number; another outcome's is not printed.
@@ -150,5 +86,5 @@ pub fn write_short(text: &mut [u8]) -> usize
     requires { ⌜ 12 ≤ length (now text) ⌝ }
     ensures { λ r. ⌜ Printed shortText (now (text .entry)) r (now (text .exit)) ⌝ }
 {
-    write_run(text, 0, b"short input\n")
+    writing::write_run(text, 0, b"short input\n")
 }

@@ -1,7 +1,7 @@
 -- `links::main` is safe and ends: what is printed is within the text.
 use mathlib.Core.Path.{sym}
 use lib.Seq.{length-take-le}
-use Rattle.report.proofs.Pieces.{printed-within}
+use Rattle.writing.proofs.Pieces.{printed-within}
 use borrow.Author.Needs.{needs}
 use Rattle.links.proofs.main.Statement.{statement}
 use Rattle.links.proofs.main.Tie as tie

@@ -1,9 +1,10 @@
 -- `report::write_answer` meets its contract. The first line and what stands behind it are the whole text.
 use Rattle.words.specs.Basics.{_≡_, sym, _∙_, _≤_, arith, length-take-le, now, eq-eqb, ne-eqb, needs}
 use Rattle.words.specs.Outcomes.{numberOf}
-use Rattle.report.specs.Text.{firstLine, countOf, answerText, Wrote}
-use Rattle.report.proofs.Decimal.{first-line-length}
-use Rattle.report.proofs.Pieces.{wrote-more, wrote-all}
+use Rattle.writing.specs.Writing.{Wrote}
+use Rattle.report.specs.Text.{firstLine, countOf, answerText}
+use Rattle.report.proofs.Lines.{first-line-length}
+use Rattle.writing.proofs.Pieces.{wrote-more, wrote-all}
 use Rattle.report.proofs.write_answer.Statement.{statement}
 use Rattle.report.proofs.write_answer.Tie as tie
 

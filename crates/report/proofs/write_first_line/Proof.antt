@@ -1,8 +1,8 @@
 -- `report::write_first_line` meets its contract. Two words with their numbers and the line's end are one piece.
 use Rattle.words.specs.Basics.{arith, needs}
 use Rattle.report.specs.Text.{firstLine}
-use Rattle.report.proofs.Decimal.{at-most-three}
-use Rattle.report.proofs.Pieces.{wrote-more}
+use Rattle.writing.proofs.Decimal.{at-most-three}
+use Rattle.writing.proofs.Pieces.{wrote-more}
 use Rattle.report.proofs.write_first_line.Statement.{statement}
 use Rattle.report.proofs.write_first_line.Tie as tie
 

@@ -2,7 +2,8 @@
 use native.Mathlib.Nat.{sub-zero}
 use Rattle.words.specs.Basics.{_-_, _*_, _≤_, arith, drop, now, needs}
 use Rattle.report.specs.Text.{recipientLines}
-use Rattle.report.proofs.Pieces.{Going, going-start, going-more, going-end, next-recipient, no-recipient, lines-length}
+use Rattle.writing.proofs.Pieces.{Going, going-start, going-more, going-end}
+use Rattle.report.proofs.Lines.{next-recipient, no-recipient, lines-length}
 use Rattle.report.proofs.write_recipients.Statement.{statement}
 use Rattle.report.proofs.write_recipients.Tie as tie
 

@@ -1,7 +1,7 @@
 -- `report::write_reply` meets its contract. The digits and the line's end are one piece.
 use Rattle.words.specs.Basics.{arith, now, needs}
 use Rattle.report.specs.Text.{hexLine}
-use Rattle.report.proofs.Pieces.{wrote-more, hex-length}
+use Rattle.writing.proofs.Pieces.{wrote-more, hex-length}
 use Rattle.report.proofs.write_reply.Statement.{statement}
 use Rattle.report.proofs.write_reply.Tie as tie
 

@@ -1,6 +1,6 @@
 -- `report::write_short` meets its contract. The one piece is the whole text.
 use Rattle.words.specs.Basics.{needs}
-use Rattle.report.proofs.Pieces.{wrote-all}
+use Rattle.writing.proofs.Pieces.{wrote-all}
 use Rattle.report.proofs.write_short.Statement.{statement}
 use Rattle.report.proofs.write_short.Tie as tie
 

@@ -1,7 +1,6 @@
--- A number of one, two and three decimal digits, and the first line, which holds two of them.
-use Rattle.words.specs.Basics.{_≡_, refl, Bool, true, false, [], _∷_, ℕ, _/_, _%_, _<_, _≤_, arith, ltb, length, length-append, lt-ltb, le-ltb, ltb-true}
-use Rattle.words.specs.Basics.{ltb-false}
-use Rattle.report.specs.Text.{digit, decimal, firstLine}
+-- A number of one, two and three decimal digits.
+use Rattle.words.specs.Basics.{_≡_, refl, Bool, true, false, [], _∷_, ℕ, _/_, _%_, _<_, _≤_, arith, ltb, length, lt-ltb, le-ltb, ltb-true, ltb-false}
+use Rattle.writing.specs.Writing.{digit, decimal}
 
 module _ (n : ℕ) where
   pub one-digit : n < 10 → decimal n ≡ digit (n % 10) ∷ []
@@ -33,10 +32,3 @@ module _ (n : ℕ) where
       go true p b q = rw (one-digit (ltb-true n 10 p)) (omega arith)
       go false p true q = rw (two-digits (ltb-false n 10 p) (ltb-true n 100 q)) (omega arith)
       go false p false q = rw (three-digits (ltb-false n 100 q) h) (omega arith)
-
-pub first-line-length : (n c : ℕ) → n < 1000 → c < 1000 → length (firstLine n c) ≤ 22
-unfolding firstLine
-first-line-length n c h k =
-    let a = at-most-three n h in
-    let b = at-most-three c k in
-    simp length-append (omega arith)

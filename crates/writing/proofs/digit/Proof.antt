@@ -1,8 +1,8 @@
--- `report::digit` meets its contract. The test is the definition's.
+-- `writing::digit` meets its contract. The test is the definition's.
 use Rattle.words.specs.Basics.{lt-ltb, le-ltb, needs}
-use Rattle.report.specs.Text.{digit}
-use Rattle.report.proofs.digit.Statement.{statement}
-use Rattle.report.proofs.digit.Tie as tie
+use Rattle.writing.specs.Writing.{digit}
+use Rattle.writing.proofs.digit.Statement.{statement}
+use Rattle.writing.proofs.digit.Tie as tie
 
 returns : tie.Need-returns
 unfolding digit

@@ -1,8 +1,8 @@
--- `report::write_field` meets its contract. The word and the number are one piece.
+-- `writing::write_field` meets its contract. The word and the number are one piece.
 use Rattle.words.specs.Basics.{needs}
-use Rattle.report.proofs.Pieces.{wrote-more}
-use Rattle.report.proofs.write_field.Statement.{statement}
-use Rattle.report.proofs.write_field.Tie as tie
+use Rattle.writing.proofs.Pieces.{wrote-more}
+use Rattle.writing.proofs.write_field.Statement.{statement}
+use Rattle.writing.proofs.write_field.Tie as tie
 
 returns : tie.Need-returns
 returns c =

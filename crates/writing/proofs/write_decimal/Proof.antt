@@ -1,8 +1,8 @@
--- `report::write_decimal` meets its contract. One, two or three digits, as the tests say.
+-- `writing::write_decimal` meets its contract. One, two or three digits, as the tests say.
 use Rattle.words.specs.Basics.{arith, needs}
-use Rattle.report.proofs.Decimal.{one-digit, two-digits, three-digits}
-use Rattle.report.proofs.write_decimal.Statement.{statement}
-use Rattle.report.proofs.write_decimal.Tie as tie
+use Rattle.writing.proofs.Decimal.{one-digit, two-digits, three-digits}
+use Rattle.writing.proofs.write_decimal.Statement.{statement}
+use Rattle.writing.proofs.write_decimal.Tie as tie
 
 returns : tie.Need-returns
 returns c =

@@ -1,11 +1,11 @@
 -- Pieces written one behind the other are one piece. A loop's invariant says that what is left to write gives the whole.
 use native.Mathlib.Nat.{add-zero}
 use native.Mathlib.Numerals.{add-one}
-use Rattle.words.specs.Basics.{_≡_, refl, ap, _∙_, List, [], _∷_, _++_, flatMap, ℕ, zero, suc, _+_, _-_, _*_, _<_, _≤_, arith, length, drop, getD}
-use Rattle.words.specs.Basics.{length-append, drop-of-length-le, sets, drop-cons, drop-drop, getD-drop, length-sets}
+use Rattle.words.specs.Basics.{_≡_, refl, ap, _∙_, List, [], _∷_, _++_, flatMap, ℕ, suc, _+_, _-_, _*_, _<_, _≤_, arith, length, drop, getD, length-append}
+use Rattle.words.specs.Basics.{drop-of-length-le, sets, drop-cons, length-sets}
 use Rattle.rules.specs.Octets.{over}
 use Rattle.octets.proofs.Runs.{sets-over}
-use Rattle.report.specs.Text.{hexOctet, recipientLine, recipientLines, Wrote, Printed}
+use Rattle.writing.specs.Writing.{hexOctet, Wrote, Printed}
 
 sets-append : (a b t : List ℕ) (at : ℕ) → sets t at (a ++ b) ≡ sets (sets t at a) (at + length a) b
 sets-append [] b t at = rw add-zero
@@ -53,7 +53,7 @@ going-more {whole} {t₀} {at} {piece} {left} g e w =
 pub going-end : {whole t₀ : List ℕ} {at : ℕ} {rest t : List ℕ} {next : ℕ} → Going whole t₀ at rest t next → rest ≡ [] → Wrote whole t₀ at next t
 going-end {whole} {t₀} {at} g e = record { fits = g .room; place = rw (e, add-zero) at (g .place); text = rw e at (g .text) }
 
--- The two loops: what the next turn writes, that nothing is left, and how long the whole is
+-- The octets in hex: what the next turn writes, that nothing is left, and how long the whole is
 
 pub next-octet : (s : List ℕ) (j : ℕ) → j < length s → flatMap hexOctet (drop j s) ≡ hexOctet (getD s j 0) ++ flatMap hexOctet (drop (j + 1) s)
 unfolding flatMap
@@ -67,23 +67,3 @@ pub hex-length : (s : List ℕ) → length (flatMap hexOctet s) ≡ 2 * length s
 unfolding flatMap
 hex-length [] = refl
 hex-length (o ∷ s) = let e = hex-length s in omega arith
-
-pub next-recipient : (l : List ℕ) (n i : ℕ) → i < n
-    → recipientLines (n - i) (drop (3 * i) l)
-    ≡ recipientLine (getD l (3 * i) 0) (getD l (3 * i + 1) 0) (getD l (3 * i + 2) 0) ++ recipientLines (n - (i + 1)) (drop (3 * (i + 1)) l)
-unfolding recipientLines
-next-recipient l n i h =
-    let e : n - i ≡ suc (n - (i + 1)) = omega arith in
-    let f : 3 * (i + 1) ≡ 3 * i + 3 = omega arith in
-    rw (e, f) (simp (getD-drop, drop-drop, add-zero))
-
-pub no-recipient : (l : List ℕ) (n i : ℕ) → n ≤ i → recipientLines (n - i) l ≡ []
-unfolding recipientLines
-no-recipient l n i h =
-    let e : n - i ≡ 0 = omega arith in
-    rw e
-
-pub lines-length : (n : ℕ) (l : List ℕ) → length (recipientLines n l) ≡ 8 * n
-unfolding recipientLines
-lines-length zero l = refl
-lines-length (suc n) l = let e = lines-length n (drop 3 l) in omega arith

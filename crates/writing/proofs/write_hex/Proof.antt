@@ -1,9 +1,9 @@
--- `report::write_hex` meets its contract. What is left to write gives the digits.
+-- `writing::write_hex` meets its contract. What is left to write gives the digits.
 use Rattle.words.specs.Basics.{flatMap, _-_, _≤_, arith, length, drop, length-drop, now, needs}
-use Rattle.report.specs.Text.{hexOctet}
-use Rattle.report.proofs.Pieces.{Going, going-start, going-more, going-end, next-octet, no-octet, hex-length}
-use Rattle.report.proofs.write_hex.Statement.{statement}
-use Rattle.report.proofs.write_hex.Tie as tie
+use Rattle.writing.specs.Writing.{hexOctet}
+use Rattle.writing.proofs.Pieces.{Going, going-start, going-more, going-end, next-octet, no-octet, hex-length}
+use Rattle.writing.proofs.write_hex.Statement.{statement}
+use Rattle.writing.proofs.write_hex.Tie as tie
 
 abbrev Inv-loop : tie.InvT-loop
 Inv-loop text₀ at s next₀ j₀ text next j = (j ≤ length s) × Going (flatMap hexOctet s) text₀ at (flatMap hexOctet (drop j s)) text next
