@@ -1,5 +1,5 @@
 -- Laws of a command whole: what a check that fails leaves, and what a handler's answer makes of the tables and the reply.
-use Rattle.words.specs.Basics.{_≡_, refl, sym, ap, _∙_, Bool, true, false, cond, List, [], _∷_, ℕ, eqb, length, eq-eqb, ne-eqb}
+use Rattle.words.specs.Basics.{_≡_, refl, sym, ap, _∙_, Bool, true, false, cond, List, [], _∷_, ℕ, eqb, length, eq-eqb, ne-eqb, needs}
 use Rattle.words.specs.Names.{ok, notAuthorized, invalidArgument}
 use Rattle.rules.specs.Types.{DeviceAddress, Code, Command, CreateGroup, DeleteGroup, GetGroupInfo, Kind, Devices, Binds, Groups, Members}
 use Rattle.rules.specs.Octets.{over}
@@ -16,6 +16,7 @@ use Rattle.creating.specs.Creating.{Made, made, making}
 use Rattle.group_commands.specs.Grouping.{Deleted, deleted, deleting}
 use Rattle.group_info.specs.Informing.{informing}
 use Rattle.commands.specs.Perform.{performed, performing}
+use Rattle.commands.proofs.Sizes.{asked-length, whole-binds, whole-groups, whole-members, within-groups, within-members, named-groups, some-room}
 
 -- A code, and what it leaves
 
@@ -74,24 +75,36 @@ replaced-done i L c x = step (eqb (c .0) (ok .0))
     step true = changed-only i x L
     step false = sym (replaced-same i L)
 
--- a handler with one table, of which 0x00 is the whole reply
-pub acts-on : (i : Kind) (L : Lent) (k : Command) (p out : List ℕ) (x : Change) {c : Code} {t : List ℕ} → row k .effect (tables L) p ≡ only i x
-    → row k .behind (tables L) p ≡ [] → coded c t ≡ coding (size i) (row k .verdict (tables L) p) x (lentOf i L)
-    → performed 1 (replaced i t L) (over (c .0 ∷ []) out) ≡ performing L k p (row k .verdict (tables L) p) out
+-- the arm of k in a handler with the table i, of which 0x00 is the whole reply
+abbrev pub ActsOn : Kind → Type 0
+ActsOn i = (L M : Lent) (j k : Command) (p out out' t : List ℕ) (n : ℕ) (c : Code) (x : Change) → j ≡ k → out' ≡ over (c .0 ∷ []) out → n ≡ 1
+    → coded c t ≡ coding (size i) (row k .verdict (tables L) p) x (lentOf i L) → M ≡ replaced i t L → row k .effect (tables L) p ≡ only i x
+    → row k .behind (tables L) p ≡ [] → performed n M out' ≡ performing L j p (row j .verdict (tables L) p) out
+
+acts-on : (i : Kind) → ActsOn i
 unfolding performing replyPayload coding
-acts-on i L k p out x {c} {t} e g d =
+acts-on i L M j k p out out' t n c x a o b d m e g =
     let v : Code = row k .verdict (tables L) p in
     let ec : c ≡ v = ap (λ (y : Coded). y .code) d in
     let et : t ≡ onOk v (written (size i) x (lentOf i L)) (lentOf i L) = ap (λ (y : Coded). y .table) d in
-    rw (changed-done L k p v, e, replaced-done i L v x, g, code-alone v, ec, et)
+    rw (o, b, m, a, changed-done L k p v, e, replaced-done i L v x, g, code-alone v, ec, et)
+
+-- the arm of k in a handler that changes nothing and answers 0x00, which is the whole reply
+pub acts-nothing : (L : Lent) (j k : Command) (p out out' : List ℕ) (n : ℕ) (c : Code) → j ≡ k → out' ≡ over (c .0 ∷ []) out → n ≡ 1 → c ≡ ok
+    → row k .verdict (tables L) p ≡ ok → row k .effect (tables L) p ≡ nothing → row k .behind (tables L) p ≡ []
+    → performed n L out' ≡ performing L j p (row j .verdict (tables L) p) out
+unfolding performing replyPayload onOk
+acts-nothing L j k p out out' n c a o b d v e g = rw (o, b, d, a, v, changed-done L k p ok, e, changed-nothing L, g)
 
 module _ (L : Lent) (p out : List ℕ) where
-  pub acts-create-group : {n : ℕ} {gs out' : List ℕ} → made n gs out' ≡ making (L .groups) p out
-      → performed n (replaced Groups gs L) out' ≡ performing L CreateGroup p (row CreateGroup .verdict (tables L) p) out
+  pub acts-create-group : (M : Lent) (j : Command) (n : ℕ) (gs out' : List ℕ) → j ≡ CreateGroup → made n gs out' ≡ making (L .groups) p out
+      → M ≡ replaced Groups gs L → performed n M out' ≡ performing L j p (row j .verdict (tables L) p) out
   unfolding performing replyPayload making
-  acts-create-group {n} {gs} {out'} d =
+  acts-create-group M j n gs out' a d m =
       let v : Code = row CreateGroup .verdict (tables L) p in
       rw (
+        m,
+        a,
         changed-done L CreateGroup p v,
         replaced-done Groups L v _,
         ap (λ (y : Made). y .length) d,
@@ -116,12 +129,17 @@ module _ (L : Lent) (p out : List ℕ) where
       step true = refl
       step false = refl
 
-  pub acts-delete-group : {c : Code} {bs gs ms : List ℕ} → deleted c bs gs ms ≡ deleting (groupNamed p) (L .binds) (L .groups) (L .members)
-      → performed 1 (three bs gs ms) (over (c .0 ∷ []) out) ≡ performing L DeleteGroup p (row DeleteGroup .verdict (tables L) p) out
+  pub acts-delete-group : (M : Lent) (j : Command) (n : ℕ) (out' : List ℕ) (c : Code) (bs gs ms : List ℕ) → j ≡ DeleteGroup → out' ≡ over (c .0 ∷ []) out
+      → n ≡ 1 → deleted c bs gs ms ≡ deleting (groupNamed p) (L .binds) (L .groups) (L .members) → M ≡ three bs gs ms
+      → performed n M out' ≡ performing L j p (row j .verdict (tables L) p) out
   unfolding performing replyPayload deleting
-  acts-delete-group {c} {bs} {gs} {ms} d =
+  acts-delete-group M j n out' c bs gs ms a o b d m =
       let v : Code = row DeleteGroup .verdict (tables L) p in
       rw (
+        o,
+        b,
+        m,
+        a,
         changed-done L DeleteGroup p v,
         changed-three v _ _ _,
         code-alone v,
@@ -131,13 +149,26 @@ module _ (L : Lent) (p out : List ℕ) where
         ap (λ (y : Deleted). y .members) d,
       )
 
-  pub acts-get-group-info : performed (length (informing (tables L Groups) (tables L Members) (groupNamed p))) L
-      (over (informing (tables L Groups) (tables L Members) (groupNamed p)) out)
-      ≡ performing L GetGroupInfo p (row GetGroupInfo .verdict (tables L) p) out
+  pub acts-get-group-info : (j : Command) (n : ℕ) (out' : List ℕ) → j ≡ GetGroupInfo
+      → n ≡ length (informing (tables L Groups) (tables L Members) (groupNamed p))
+      → out' ≡ over (informing (tables L Groups) (tables L Members) (groupNamed p)) out
+      → performed n L out' ≡ performing L j p (row j .verdict (tables L) p) out
   unfolding performing replyPayload informing onOk
-  acts-get-group-info =
+  acts-get-group-info j n out' a b o =
       let v : Code = row GetGroupInfo .verdict (tables L) p in
-      rw (changed-done L GetGroupInfo p v, changed-nothing L, same v)
+      rw (b, o, a, changed-done L GetGroupInfo p v, changed-nothing L, same v)
     where
       same : (c : Code) → onOk c L L ≡ L
       same c = elim (eqb (c .0) (ok .0)) as (λ b. cond b L L ≡ L) [ true ↦ refl | false ↦ refl ]
+
+-- An arm of `act`: what its handler asks, and what its answer is
+
+pub acts-on-binds : ActsOn Binds
+acts-on-binds = acts-on Binds
+
+pub acts-on-members : ActsOn Members
+acts-on-members = acts-on Members
+
+pub ruleset arms =
+    (needs, some-room, asked-length, whole-binds, whole-groups, whole-members, within-groups, within-members, named-groups, acts-on-binds, acts-on-members,
+    acts-nothing, acts-create-group, acts-delete-group, acts-get-group-info)

@@ -42,7 +42,7 @@ fn to_many(to: Destination) -> bool
     }
 }
 
-// Outcome 18: the concentrator serves the eleven commands and nothing else.
+// Outcome 18: the concentrator serves the commands and nothing else.
 fn asking(decoded: Decoded) -> Way
     ensures { λ r. ⌜ r ≡ asking decoded ⌝ }
 {

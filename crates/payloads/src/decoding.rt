@@ -69,7 +69,7 @@ fn group_command(member: u8) -> Decoded
     command_or(member == Command::CREATE_GROUP, Command::CreateGroup, rest)
 }
 
-// One of the eleven commands as type 0x01 or 0x02 to a server interface, or what is not served.
+// One of the commands as type 0x01 or 0x02 to a server interface, or what is not served.
 pub fn command(f: Fields) -> Decoded
     ensures { λ r. ⌜ r ≡ command f ⌝ }
 {

@@ -1,4 +1,4 @@
--- The eleven commands (document 01, Commands and codes): a row for each, with its checks and codes in the paper's order, what it changes, and what its
+-- The commands (document 01, Commands and codes): a row for each, with its checks and codes in the paper's order, what it changes, and what its
 -- reply has behind 0x00.
 use Rattle.words.specs.Basics.{Bool, true, false, cond, not, List, [], _∷_, _++_, ℕ, zero, suc, _+_, eqb, leb, length}
 use Rattle.words.specs.Names.{ok, notAuthorized, invalidArgument, notEnoughResources, group, lowest}

@@ -32,7 +32,7 @@ groupCommand n =
     (cond (eqb n getGroupInfo) (Is GetGroupInfo)
     NotServed))))
 
--- "one of the eleven commands as type 0x01 or 0x02 to a server interface"
+-- one of the commands "as type 0x01 or 0x02 to a server interface"
 unfoldable pub command : Fields → Decoded
 command f =
     ask (leb commandType (f .«message_type») & leb (f .«message_type») askingType) NotServed

@@ -50,7 +50,7 @@ pub enum BindPart {
     DestinationUnit,
 }
 
-// The eleven commands: one addition of a bind and five removals, and five of groups.
+// The commands of the two services.
 pub enum Command {
     AddBind,
     RemoveBinds(BindPart),
