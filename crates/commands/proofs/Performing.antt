@@ -169,6 +169,20 @@ acts-on-binds = acts-on Binds
 pub acts-on-members : ActsOn Members
 acts-on-members = acts-on Members
 
-pub ruleset arms =
-    (needs, some-room, asked-length, whole-binds, whole-groups, whole-members, within-groups, within-members, named-groups, acts-on-binds, acts-on-members,
-    acts-nothing, acts-create-group, acts-delete-group, acts-get-group-info)
+pub ruleset arms = (
+  needs,
+  some-room,
+  asked-length,
+  whole-binds,
+  whole-groups,
+  whole-members,
+  within-groups,
+  within-members,
+  named-groups,
+  acts-on-binds,
+  acts-on-members,
+  acts-nothing,
+  acts-create-group,
+  acts-delete-group,
+  acts-get-group-info,
+)

@@ -2,13 +2,9 @@
 use Rattle.words.specs.Basics.{_≡_, true, List, ℕ, length}
 use Rattle.rules.specs.Types.{DeviceAddress, Code, Command}
 use Rattle.rules.specs.Octets.{over}
-use Rattle.rules.specs.Frame.{Lent, lent, tables, changed}
+use Rattle.rules.specs.Frame.{Lent, beside, tables, changed}
 use Rattle.rules.specs.Sound.{sound}
 use Rattle.rules.specs.Commands.{row, judge, done, replyPayload}
-
--- the tables that commands use, beside all else that L has
-abbrev pub beside : Lent → List ℕ → List ℕ → List ℕ → List ℕ → Lent
-beside L ds bs gs ms = lent ds bs gs ms
 
 -- what commands may count on: these are of tables that are sound
 pub record Workable (ds bs gs ms : List ℕ) : Type 0 where

@@ -5,10 +5,10 @@ use words::DeviceAddress;
 ghost use Rattle.words.specs.Basics.{_≡_, true, cond, _+_, _≤_, length};
 ghost use Rattle.words.specs.Names.{headerLength, longest};
 ghost use Rattle.rules.specs.Types.{Devices};
-ghost use Rattle.rules.specs.Frame.{Lent, table};
+ghost use Rattle.rules.specs.Frame.{Lent, beside, table};
 ghost use Rattle.rules.specs.Exists.{hasRights};
 ghost use Rattle.rules.specs.Commands.{row};
-ghost use Rattle.commands.specs.Perform.{beside, Workable, performed, acting, judging};
+ghost use Rattle.commands.specs.Perform.{Workable, performed, acting, judging};
 
 // The command's own handler. The code that it gives is the payload of the reply, unless more is named.
 fn act(

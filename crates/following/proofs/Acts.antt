@@ -5,7 +5,7 @@ use Rattle.words.specs.Names.{headerLength, longest}
 use Rattle.rules.specs.Types.{Fields, Command, Done, Forwarded, Nobody}
 use Rattle.rules.specs.Octets.{over}
 use Rattle.rules.specs.Units.{unitOctets}
-use Rattle.rules.specs.Frame.{Lent, tables, changed}
+use Rattle.rules.specs.Frame.{Lent, nothingLent, tables, changed}
 use Rattle.rules.specs.Message.{payload, header, answering}
 use Rattle.rules.specs.Recipients.{recipients}
 use Rattle.rules.specs.Commands.{judge, done, replyPayload}
@@ -13,7 +13,6 @@ use Rattle.rules.specs.Calls.{answer, answered, handled, forwarded}
 use Rattle.messages.proofs.Replies.{reply-behind, within-room}
 use Rattle.commands.specs.Perform.{Performed, performed, performing}
 use Rattle.units.specs.Listing.{Listing}
-use Rattle.following.specs.Following.{nothingLent}
 
 -- Serving
 

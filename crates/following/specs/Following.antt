@@ -2,7 +2,6 @@
 use Rattle.words.specs.Basics.{List, [], ℕ, _≤_, length}
 use Rattle.words.specs.Names.{longest}
 use Rattle.rules.specs.Types.{Fields}
-use Rattle.rules.specs.Frame.{Lent, lentBy}
 use Rattle.messages.specs.Ranges.{Ranged}
 use Rattle.commands.specs.Perform.{Workable}
 
@@ -11,7 +10,3 @@ pub record Servable (ds bs gs ms : List ℕ) (f : Fields) (reply : List ℕ) : T
   pub tables : Workable ds bs gs ms
   pub request : Ranged f
   pub room : longest ≤ length reply
-
--- forwarding is lent no table to change
-abbrev pub nothingLent : Lent
-nothingLent = lentBy (λ k. [])

@@ -5,12 +5,11 @@ use words::Fields;
 use words::Outcome;
 ghost use Rattle.words.specs.Basics.{_≡_, []};
 ghost use Rattle.rules.specs.Types.{Binds, Members};
-ghost use Rattle.rules.specs.Frame.{Lent, table};
+ghost use Rattle.rules.specs.Frame.{Lent, nothingLent, beside, table};
 ghost use Rattle.rules.specs.Recipients.{recipients};
 ghost use Rattle.rules.specs.Calls.{answer, handled, forwarded};
-ghost use Rattle.commands.specs.Perform.{beside};
 ghost use Rattle.delivery.specs.Delivering.{Deliverable};
-ghost use Rattle.following.specs.Following.{Servable, nothingLent};
+ghost use Rattle.following.specs.Following.{Servable};
 
 // Serves a command. Its handler gets the payload where it stands in the message, and the part of the lent reply behind the header.
 pub fn serve(

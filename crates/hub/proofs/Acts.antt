@@ -4,15 +4,14 @@ use Rattle.words.specs.Basics.{_≡_, ap, List, [], _∷_, ℕ, _-_, length, le
 use Rattle.words.specs.Names.{headerLength, longest}
 use Rattle.words.specs.declared.Destination.{Destination}
 use Rattle.rules.specs.Types.{Fields, Command, Binds, Members, Outcome, Refuse, Serve, Forward, Reading}
-use Rattle.rules.specs.Frame.{Lent, tables}
+use Rattle.rules.specs.Frame.{Lent, nothingLent, beside, tables}
 use Rattle.rules.specs.Message.{fields, payload, reads, reading}
 use Rattle.rules.specs.Recipients.{recipients}
 use Rattle.rules.specs.Calls.{roomy, way, Answer, answer, answered, handled, forwarded, follow, message}
 use Rattle.rules.proofs.Lists.{split, ask-pass}
 use Rattle.rules.proofs.Ways.{Acting}
 use Rattle.messages.proofs.Replies.{fields-ranged, rest-is}
-use Rattle.commands.specs.Perform.{beside}
-use Rattle.following.specs.Following.{Servable, nothingLent}
+use Rattle.following.specs.Following.{Servable}
 
 -- What is known behind a way that acts
 

@@ -66,8 +66,7 @@ pub const MEMBER_DEVICE: usize = 2;
 // The most octets of a name.
 pub const LONGEST_NAME: u8 = 13;
 
-// The octets of a record, how many records there may be, and how many octets must not be there twice: the address in devices and groups, the record in
-// binds and members.
+// The octets of a record, how many records there may be, and how many octets must not be there twice: those of its address, or the whole record.
 pub struct Shape {
     pub size: usize,
     pub most: usize,

@@ -3,7 +3,7 @@
 use Rattle.words.specs.Basics.{_≡_, refl, List, [], _∷_, _++_, ℕ, _+_, _-_, length, replicate}
 use Rattle.rules.specs.Types.{Outcome, Done, Forwarded, WrongLength, WrongDataLength, WrongType, ResponseToMany}
 use Rattle.rules.specs.Octets.{over}
-use Rattle.rules.specs.Frame.{Lent, lent}
+use Rattle.rules.specs.Frame.{Lent, nothingLent, beside}
 use Rattle.rules.specs.Calls.{message, Answer, answer}
 use Rattle.rules.proofs.Whole.{whole}
 
@@ -43,7 +43,7 @@ bind2 = bind 0x80 0x01 0x00
 
 -- tables with these devices, and with these binds, groups and members
 abbrev holding : List ℕ → List ℕ → List ℕ → Lent
-holding bs gs ms = lent devices bs gs ms
+holding bs gs ms = beside nothingLent devices bs gs ms
 
 -- the tables of "Rows to try" with these binds in them
 abbrev with-binds : List ℕ → Lent

@@ -4,7 +4,7 @@ use Rattle.rules.specs.Types.{Kind, Binds, Members, Outcome, Forwarded, 
 use Rattle.rules.specs.Octets.{over}
 use Rattle.words.specs.Names.{device}
 use Rattle.rules.specs.Tables.{Rec}
-use Rattle.rules.specs.Frame.{Lent, lent}
+use Rattle.rules.specs.Frame.{Lent, nothingLent, beside}
 use Rattle.rules.specs.Calls.{message}
 use Rattle.rules.specs.History.{Call, sends, admits, releases, said, left, after, history, granted, stand, standing, entries}
 use Rattle.rules.proofs.Whole.{whole}
@@ -128,7 +128,7 @@ five = 0x00 ∷ 0x01 ∷ 0x00 ∷ 0x05 ∷ 0x01 ∷ []
 
 -- tables that hold these octets
 abbrev holding : List ℕ → List ℕ → List ℕ → List ℕ → Lent
-holding ds bs gs ms = lent ds bs gs ms
+holding ds bs gs ms = beside nothingLent ds bs gs ms
 
 abbrev start : Lent
 start = holding (free 12) (free 16) (free 16) (free 10)

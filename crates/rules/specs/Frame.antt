@@ -4,7 +4,7 @@ use Rattle.words.specs.Basics.{Bool, cond, List, [], _∷_, ℕ, eqb}
 use Rattle.rules.specs.Types.{Kind, Devices, Binds, Groups, Members}
 use Rattle.rules.specs.Lists.{all}
 use Rattle.rules.specs.Tables.{Rec, records, Change, none, written}
-use Rattle.rules.specs.Layout.{size}
+use Rattle.rules.specs.Layout.{shape, size}
 
 -- the tables as their caller lends them
 pub record Lent : Type 0 where
@@ -19,6 +19,14 @@ lent ds bs gs ms = record { devices = ds; binds = bs; groups = gs; members = ms 
 -- .. by kind
 abbrev pub lentBy : (Kind → List ℕ) → Lent
 lentBy t = lent (t Devices) (t Binds) (t Groups) (t Members)
+
+-- no octet in any
+abbrev pub nothingLent : Lent
+nothingLent = lentBy (λ k. [])
+
+-- the tables that commands use, beside all else that L has
+abbrev pub beside : Lent → List ℕ → List ℕ → List ℕ → List ℕ → Lent
+beside L ds bs gs ms = lent ds bs gs ms
 
 -- one of them
 abbrev pub lentOf : Kind → Lent → List ℕ
@@ -39,12 +47,8 @@ kinds = Devices ∷ Binds ∷ Groups ∷ Members ∷ []
 unfoldable pub everyTable : (Kind → Bool) → Bool
 everyTable p = all p kinds
 
--- the place in this order, which tells two kinds apart
 abbrev pub place : Kind → ℕ
-place Devices = 0
-place Binds = 1
-place Groups = 2
-place Members = 3
+place k = shape k .place
 
 -- a for the table k, and for the others what x has
 unfoldable pub also : {A : Type 0} → Kind → A → (Kind → A) → Kind → A

@@ -79,7 +79,7 @@ pub data Entry : Type 0 where
   adds : Rec → Entry
   withdraws : (Rec → Bool) → Entry
 
--- The sheet has a page for devices, one for binds and one for members; groups have none.
+-- has the sheet a page for this table? Groups have none.
 unfoldable pub hasPage : Kind → Bool
 hasPage Devices = true
 hasPage Binds = true

@@ -12,19 +12,22 @@ use Rattle.rules.specs.Tables.{Rec, matches, addressed}
 abbrev pub addressLength : ℕ
 addressLength = 2
 
+-- what is asked of a table by its kind
 pub record Shape : Type 0 where
+  -- its place among the tables that a call is lent, which tells two kinds apart
+  pub place : ℕ
   -- the octets of a record
   pub size : ℕ
   -- how many records there may be
   pub most : ℕ
-  -- how many octets must not be there twice: the address in devices and groups, the record in binds and members
+  -- how many octets must not be there twice: those of its address, or the whole record
   pub key : ℕ
 
 abbrev pub shape : Kind → Shape
-shape Devices = record { size = 4; most = 64; key = addressLength }
-shape Binds = record { size = 8; most = 64; key = 8 }
-shape Groups = record { size = 16; most = 16; key = addressLength }
-shape Members = record { size = 5; most = 128; key = 5 }
+shape Devices = record { place = 0; size = 4; most = 64; key = addressLength }
+shape Binds = record { place = 1; size = 8; most = 64; key = 8 }
+shape Groups = record { place = 2; size = 16; most = 16; key = addressLength }
+shape Members = record { place = 3; size = 5; most = 128; key = 5 }
 
 abbrev pub size : Kind → ℕ
 size k = shape k .size

@@ -1,8 +1,7 @@
 -- `commands::perform` meets its contract: rights, then length, then the command itself.
 use Rattle.words.specs.Basics.{_∙_, List, ℕ, arith, now, not-true, not-false, needs}
 use Rattle.words.specs.Names.{notAuthorized, invalidArgument}
-use Rattle.rules.specs.Frame.{Lent}
-use Rattle.commands.specs.Perform.{beside}
+use Rattle.rules.specs.Frame.{Lent, beside}
 use Rattle.commands.proofs.Performing.{refused, without-rights, wrong-length, behind-checks}
 use Rattle.commands.proofs.perform.Statement.{statement}
 use Rattle.commands.proofs.perform.Tie as tie

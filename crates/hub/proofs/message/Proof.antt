@@ -9,7 +9,7 @@ use Rattle.hub.proofs.message.Tie as tie
 
 -- the message was read before its way was decided
 abbrev to-read : tie.After-way-of → tie.After-read
-to-read w = w .before .before .before .before .before .before .before
+to-read w = search w
 
 sub-serve : tie.Need-sub-serve
 sub-serve c =
