@@ -24,8 +24,8 @@ module _ {b w : Bool} (e : b ≡ w) where
   passed n = sym e ∙ not-false b n
 
 -- tables that are sound are whole records
-pub whole-table : (L : Lent) → sound L ≡ true → (k : Kind) → length (lentOf k L) % size k ≡ 0
-whole-table L s k = whole-length k (lentOf k L) (whole-at L s k)
+pub whole-table : (L : Lent) {b : Bool} → b ≡ sound L → not b ≡ false → (k : Kind) → length (lentOf k L) % size k ≡ 0
+whole-table L e n k = whole-length k (lentOf k L) (whole-at L (passed e n) k)
 
 -- Admit
 
@@ -48,21 +48,21 @@ module _ (ds : List Rec) (d : DeviceAddress) (rights top : ℕ) where
     unfolding admission ask
     is-new a r = rw (f, a, r)
 
-module _ (L : Lent) (d : DeviceAddress) (rights top : ℕ) where
-  pub admit-unsound : sound L ≡ false → hostAnswer Unsound L ≡ admit L d rights top
+module _ (L : Lent) {b : Bool} (a : b ≡ sound L) (d : DeviceAddress) (rights top : ℕ) where
+  pub admit-unsound : not b ≡ true → hostAnswer Unsound L ≡ admit L d rights top
   unfolding admit settled ask
-  admit-unsound s = rw s
+  admit-unsound s = rw (failed a s)
 
   -- on sound tables, with the number n of the outcome o
-  module _ {o : Outcome} {n : ℕ} (s : sound L ≡ true) (e : o ≡ admission (tables L Devices) d rights top) (k : n ≡ numberOf o) where
+  module _ {o : Outcome} {n : ℕ} (s : not b ≡ false) (e : o ≡ admission (tables L Devices) d rights top) (k : n ≡ numberOf o) where
     pub admit-refused : (n ≡ 0 → ⊥) → hostAnswer o L ≡ admit L d rights top
     unfolding admit settled ask
-    admit-refused z = rw (s, sym e, ne-eqb (numberOf o) 0 (λ h. z (k ∙ h)))
+    admit-refused z = rw (passed a s, sym e, ne-eqb (numberOf o) 0 (λ h. z (k ∙ h)))
 
     pub admit-done : {r : Rec} {ds : List ℕ} → n ≡ 0 → r ≡ deviceRecord d rights top → ds ≡ written (size Devices) (store r) (L .devices)
         → hostAnswer o (replaced Devices ds L) ≡ admit L d rights top
     unfolding admit settled ask changed admitting also nothing written replaced
-    admit-done z f h = rw (s, sym e, eq-eqb (numberOf o) 0 (sym k ∙ z), h, f)
+    admit-done z f h = rw (passed a s, sym e, eq-eqb (numberOf o) 0 (sym k ∙ z), h, f)
 
 -- Release
 
@@ -87,20 +87,20 @@ module _ (d : DeviceAddress) where
   unfolding releasing also addressed
   device-freed ds bs ms e f g h = (rw (f, e), g, rw (h, e))
 
-module _ (L : Lent) (d : DeviceAddress) where
-  pub release-unsound : sound L ≡ false → hostAnswer Unsound L ≡ release L d
+module _ (L : Lent) {b : Bool} (e : b ≡ sound L) (d : DeviceAddress) where
+  pub release-unsound : not b ≡ true → hostAnswer Unsound L ≡ release L d
   unfolding release settled ask
-  release-unsound s = rw s
+  release-unsound s = rw (failed e s)
 
-  pub release-unknown : sound L ≡ true → admitted (tables L Devices) d ≡ false → hostAnswer NotAdmitted L ≡ release L d
+  pub release-unknown : not b ≡ false → admitted (tables L Devices) d ≡ false → hostAnswer NotAdmitted L ≡ release L d
   unfolding release settled ask
-  release-unknown s a = rw (s, a)
+  release-unknown s a = rw (passed e s, a)
 
   -- the groups stay
-  pub release-done : {ds bs ms : List ℕ} → sound L ≡ true → admitted (tables L Devices) d ≡ true
+  pub release-done : {ds bs ms : List ℕ} → not b ≡ false → admitted (tables L Devices) d ≡ true
       → (ds ≡ written (size Devices) (releasing d Devices) (L .devices))
       × (bs ≡ written (size Binds) (releasing d Binds) (L .binds))
       × (ms ≡ written (size Members) (releasing d Members) (L .members))
       → hostAnswer (Done 0) (replaced Devices ds (replaced Binds bs (replaced Members ms L))) ≡ release L d
   unfolding release settled ask changed releasing also nothing written replaced
-  release-done s a w = rw (s, a, w .0, w .1, w .2)
+  release-done s a w = rw (passed e s, a, w .0, w .1, w .2)

@@ -1,56 +1,74 @@
 -- What the acting parts leave is the message's answer: a refusal, a command that is handled, a list of recipients.
 use borrow.Rule.Slice.PartMut.{midOf}
-use Rattle.words.specs.Basics.{_≡_, ap, List, [], _∷_, ℕ, _-_, length, leb-true}
+use Rattle.words.specs.Basics.{_≡_, sym, ap, _∙_, List, [], _∷_, ℕ, _-_, _≤_, length, leb-true}
 use Rattle.words.specs.Names.{headerLength, longest}
 use Rattle.words.specs.declared.Destination.{Destination}
-use Rattle.rules.specs.Types.{Fields, Command, Binds, Members, Outcome, Refuse, Serve, Forward, Reading}
+use Rattle.rules.specs.Types.{Fields, Command, Binds, Members, Outcome, Way, Refuse, Serve, Forward, Reading}
 use Rattle.rules.specs.Frame.{Lent, nothingLent, beside, tables}
 use Rattle.rules.specs.Message.{fields, payload, reads, reading}
 use Rattle.rules.specs.Recipients.{recipients}
 use Rattle.rules.specs.Calls.{roomy, way, Answer, answer, answered, handled, forwarded, follow, message}
 use Rattle.rules.proofs.Lists.{split, ask-pass}
-use Rattle.rules.proofs.Ways.{Acting}
+use Rattle.rules.proofs.Ways.{Acting, serve-known, forward-known}
+use Rattle.messages.proofs.Reading.{long-enough}
 use Rattle.messages.proofs.Replies.{fields-ranged, rest-is}
+use Rattle.delivery.specs.Delivering.{Deliverable}
+use Rattle.delivery.proofs.Delivering.{deliverable}
 use Rattle.following.specs.Following.{Servable}
 
--- What is known behind a way that acts
+-- the fields that were read are the message's
+fields-read : {L : Lent} {m r l : List ℕ} → Acting L m r l → {y : Reading} → y ≡ reading m → y .fields ≡ fields m
+unfolding reading reads
+fields-read a e = rw (ask-pass _ _ (a .length), ask-pass _ _ (a .data-length), ask-pass _ _ (a .type)) at (ap (λ (x : Reading). x .fields) e)
 
-module _ {L : Lent} {m r l : List ℕ} (a : Acting L m r l) where
-  -- the fields that were read are the message's
-  pub fields-read : {r : Reading} → r ≡ reading m → r .fields ≡ fields m
-  unfolding reading reads
-  fields-read e = rw (ask-pass _ _ (a .length), ask-pass _ _ (a .data-length), ask-pass _ _ (a .type)) at (ap (λ (x : Reading). x .fields) e)
+-- x is the way that was decided
 
-  -- its command can be served
-  pub servable : {x : Reading} → x ≡ reading m → Servable (L .devices) (L .binds) (L .groups) (L .members) (x .fields) r
-  unfolding roomy
-  servable e = record {
-    tables = record { lent = L; sound = a .sound };
-    request = rw (fields-read e) (fields-ranged m);
-    room = leb-true longest (length r) (split (a .roomy) .0);
-  }
-
--- The whole
-
-module _ (L : Lent) (m r l : List ℕ) where
-  pub refuses : {o : Outcome} → way L m r l ≡ Refuse o → answer o L r l ≡ message L m r l
+module _ (L : Lent) (m r l : List ℕ) {x : Way} (e : x ≡ way L m r l) where
+  pub refuses : {o : Outcome} → x ≡ Refuse o → answer o L r l ≡ message L m r l
   unfolding message follow
-  refuses w = rw w
+  refuses w = rw (sym e ∙ w)
 
-  -- whatever else is lent stays
-  pub handled-whole : {k : Command} {f : Fields} {o : Outcome} {bs gs ms r' : List ℕ} → way L m r l ≡ Serve k → f ≡ fields m
-      → ((X : Lent) → answer o (beside X (L .devices) bs gs ms) r' []
-      ≡ handled (beside X (L .devices) (L .binds) (L .groups) (L .members)) k f (midOf headerLength (length m - headerLength) m) r [])
-      → answer o (beside L (L .devices) bs gs ms) r' l ≡ message L m r l
-  unfolding message follow handled answered payload
-  handled-whole w e a = rw (w, ← e, ← rest-is headerLength m) (ap (λ (x : Answer). answer (x .outcome) (x .tables) (x .reply) l) (a L))
+  -- a command: the message has a header, the command can be served, and what serving it leaves is the answer
 
-  -- what is listed does not depend on what else is lent
-  pub forwarded-whole : {to : Destination} {f : Fields} {o : Outcome} {l' : List ℕ} → way L m r l ≡ Forward to → f ≡ fields m
-      → answer o nothingLent [] l' ≡ forwarded (recipients (tables L Binds) (tables L Members) to f) nothingLent [] l → answer o L r l' ≡ message L m r l
-  unfolding message follow forwarded
-  forwarded-whole {to} {f} {o} {l'} w e a = rw (w, ← e) (step (recipients (tables L Binds) (tables L Members) to f) a)
-    where
-      step : (us : List ℕ) → answer o nothingLent [] l' ≡ forwarded us nothingLent [] l → answer o L r l' ≡ forwarded us L r l
-      step [] a = ap (λ (x : Answer). answer (x .outcome) L r (x .list)) a
-      step (u ∷ us) a = ap (λ (x : Answer). answer (x .outcome) L r (x .list)) a
+  module _ {k : Command} (w : x ≡ Serve k) where
+    acts : Acting L m r l
+    acts = serve-known (sym e ∙ w) .0
+
+    pub has-header : headerLength ≤ length m
+    has-header = long-enough m (acts .length)
+
+    pub servable : {y : Reading} → y ≡ reading m → Servable (L .devices) (L .binds) (L .groups) (L .members) (y .fields) r
+    unfolding roomy
+    servable q = record {
+      tables = record { lent = L; sound = acts .sound };
+      request = rw (fields-read acts q) (fields-ranged m);
+      room = leb-true longest (length r) (split (acts .roomy) .0);
+    }
+
+    -- whatever else is lent stays
+    pub handled-whole : {y : Reading} {o : Outcome} {bs gs ms r' : List ℕ} → y ≡ reading m
+        → ((X : Lent) → answer o (beside X (L .devices) bs gs ms) r' []
+        ≡ handled (beside X (L .devices) (L .binds) (L .groups) (L .members)) k (y .fields) (midOf headerLength (length m - headerLength) m) r [])
+        → answer o (beside L (L .devices) bs gs ms) r' l ≡ message L m r l
+    unfolding message follow handled answered payload
+    handled-whole q a =
+        rw (sym e ∙ w, ← fields-read acts q, ← rest-is headerLength m) (ap (λ (z : Answer). answer (z .outcome) (z .tables) (z .reply) l) (a L))
+
+  -- a message to hand on: there is room for its recipients, and they are the answer, which does not depend on what else is lent
+
+  module _ {to : Destination} (w : x ≡ Forward to) where
+    hands : Acting L m r l
+    hands = forward-known (sym e ∙ w) .0
+
+    pub listable : Deliverable (L .binds) (L .members) l
+    listable = deliverable L r l (hands .roomy) (hands .sound)
+
+    pub forwarded-whole : {y : Reading} {o : Outcome} {l' : List ℕ} → y ≡ reading m
+        → answer o nothingLent [] l' ≡ forwarded (recipients (tables L Binds) (tables L Members) to (y .fields)) nothingLent [] l
+        → answer o L r l' ≡ message L m r l
+    unfolding message follow forwarded
+    forwarded-whole {y} {o} {l'} q a = rw (sym e ∙ w, ← fields-read hands q) (step (recipients (tables L Binds) (tables L Members) to (y .fields)) a)
+      where
+        step : (us : List ℕ) → answer o nothingLent [] l' ≡ forwarded us nothingLent [] l → answer o L r l' ≡ forwarded us L r l
+        step [] a = ap (λ (z : Answer). answer (z .outcome) L r (z .list)) a
+        step (u ∷ us) a = ap (λ (z : Answer). answer (z .outcome) L r (z .list)) a

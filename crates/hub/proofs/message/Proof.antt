@@ -1,9 +1,6 @@
 -- `hub::message` meets its contract: each way's part gives the message's answer.
-use Rattle.words.specs.Basics.{sym, _∙_, arith, needs}
-use Rattle.rules.proofs.Ways.{serve-known, forward-known}
-use Rattle.messages.proofs.Reading.{long-enough}
-use Rattle.delivery.proofs.Delivering.{deliverable}
-use Rattle.hub.proofs.Acts.{fields-read, servable, refuses, handled-whole, forwarded-whole}
+use Rattle.words.specs.Basics.{arith, needs}
+use Rattle.hub.proofs.Acts.{refuses, has-header, servable, handled-whole, listable, forwarded-whole}
 use Rattle.hub.proofs.message.Statement.{statement}
 use Rattle.hub.proofs.message.Tie as tie
 
@@ -15,33 +12,32 @@ sub-serve : tie.Need-sub-serve
 sub-serve c =
     let s = c .before .before .before .before .before in
     let w = s .before .before .before in
-    omega (arith, long-enough _ (serve-known (sym (w .way-of .ensures _ (to-read w .read .ensures)) ∙ s .way2 .given .1) .0 .length))
+    omega (arith, has-header _ _ _ _ (w .way-of .ensures _ (to-read w .read .ensures)) (s .way2 .given .1))
 
 part-serve-start : tie.Need-part-serve-start
 part-serve-start c =
     let s = c .before .before .before .before .before in
     let w = s .before .before .before in
-    omega (arith, long-enough _ (serve-known (sym (w .way-of .ensures _ (to-read w .read .ensures)) ∙ s .way2 .given .1) .0 .length))
+    omega (arith, has-header _ _ _ _ (w .way-of .ensures _ (to-read w .read .ensures)) (s .way2 .given .1))
 
 serve-requires : tie.Need-serve-requires
 serve-requires c κs =
     let s = c .before .before .before .before .before .before .before in
     let w = s .before .before .before in
     let read = to-read w .read .ensures in
-    servable (serve-known (sym (w .way-of .ensures _ read) ∙ s .way2 .given .1) .0) read
+    servable _ _ _ _ (w .way-of .ensures _ read) (s .way2 .given .1) read
 
 forward-requires : tie.Need-forward-requires
 forward-requires c κs =
     let s = c .before .before .before .before in
     let w = s .before .before .before in
-    let k = forward-known (sym (w .way-of .ensures _ (to-read w .read .ensures)) ∙ s .way3 .given .1) in
-    deliverable _ _ _ (k .0 .roomy) (k .0 .sound)
+    listable _ _ _ _ (w .way-of .ensures _ (to-read w .read .ensures)) (s .way3 .given .1)
 
 returns : tie.Need-returns
 returns c =
     let s = c .before in
     let w = s .before .before .before in
-    refuses _ _ _ _ (sym (w .way-of .ensures _ (to-read w .read .ensures)) ∙ s .way .given .1)
+    refuses _ _ _ _ (w .way-of .ensures _ (to-read w .read .ensures)) (s .way .given .1)
 
 returns-2 : tie.Need-returns-2
 returns-2 c =
@@ -49,8 +45,7 @@ returns-2 c =
     let s = a .before .before .before .before .before .before .before .before in
     let w = s .before .before .before in
     let read = to-read w .read .ensures in
-    let way = sym (w .way-of .ensures _ read) ∙ s .way2 .given .1 in
-    handled-whole _ _ _ _ way (fields-read (serve-known way .0) read) (a .serve .ensures)
+    handled-whole _ _ _ _ (w .way-of .ensures _ read) (s .way2 .given .1) read (a .serve .ensures)
 
 returns-3 : tie.Need-returns-3
 returns-3 c =
@@ -58,8 +53,7 @@ returns-3 c =
     let s = a .before .before .before .before .before in
     let w = s .before .before .before in
     let read = to-read w .read .ensures in
-    let way = sym (w .way-of .ensures _ read) ∙ s .way3 .given .1 in
-    forwarded-whole _ _ _ _ way (fields-read (forward-known way .0) read) (a .forward .ensures)
+    forwarded-whole _ _ _ _ (w .way-of .ensures _ read) (s .way3 .given .1) read (a .forward .ensures)
 
 pub message-spec : {M : Type 1} → statement M
 message-spec =
