@@ -80,7 +80,7 @@ pub fn perform(
         ≡ judging (beside L (now (devices .entry)) (now (binds .entry)) (now (groups .entry)) (now (members .entry))) source command
         (now (payload .entry)) (now (out .entry))) ⌝ }
 {
-    let asked = payloads::demands(command, payload);
+    let asked = decoding::demands(command, payload);
     if !rights_fit(devices, source, asked.rights) {
         return changing::write_code(out, Code::not_authorized());
     }

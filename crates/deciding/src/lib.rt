@@ -68,7 +68,7 @@ fn way_to(devices: &[u8], groups: &[u8], to: Destination, f: Fields) -> Way
     ensures { λ r. ⌜ r ≡ wayTo (table Devices (now (devices .entry))) (table Groups (now (groups .entry))) to f ⌝ }
 {
     match to {
-        Destination::Concentrator => asking(payloads::command(f)),
+        Destination::Concentrator => asking(decoding::command(f)),
         Destination::BindAddress => Way::Forward(to),
         Destination::Unit(d, u) => forwarding(existing::unit_exists(devices, d, u), to),
         Destination::Group(g) => forwarding(existing::group_exists(groups, g), to),

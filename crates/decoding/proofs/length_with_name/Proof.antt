@@ -1,8 +1,8 @@
--- `payloads::decoding::length_with_name` meets its contract. The first octet of nothing is 0.
+-- `decoding::length_with_name` meets its contract. The first octet of nothing is 0.
 use Rattle.words.specs.Basics.{arith, now, needs}
-use Rattle.payloads.proofs.Decoded.{first-of-none}
-use Rattle.payloads.proofs.decoding.length_with_name.Statement.{statement}
-use Rattle.payloads.proofs.decoding.length_with_name.Tie as tie
+use Rattle.decoding.proofs.Decoding.{first-of-none}
+use Rattle.decoding.proofs.length_with_name.Statement.{statement}
+use Rattle.decoding.proofs.length_with_name.Tie as tie
 
 returns : tie.Need-returns
 returns c = rw (c .before .pre) (first-of-none (now (c .before .args .payload)) (c .if1 .taken))

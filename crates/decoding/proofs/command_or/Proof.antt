@@ -1,7 +1,7 @@
--- `payloads::decoding::command_or` meets its contract.
+-- `decoding::command_or` meets its contract.
 use Rattle.words.specs.Basics.{needs}
-use Rattle.payloads.proofs.decoding.command_or.Statement.{statement}
-use Rattle.payloads.proofs.decoding.command_or.Tie as tie
+use Rattle.decoding.proofs.command_or.Statement.{statement}
+use Rattle.decoding.proofs.command_or.Tie as tie
 
 returns : tie.Need-returns
 returns c = rw (c .if1 .taken)

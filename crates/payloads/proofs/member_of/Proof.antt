@@ -1,8 +1,8 @@
--- `payloads::saying::member_of` meets its contract. The five octets are the payload's, but for two top bits.
+-- `payloads::member_of` meets its contract. The five octets are the payload's, but for two top bits.
 use Rattle.words.specs.Basics.{now, needs}
-use Rattle.payloads.proofs.Decoded.{member-octets}
-use Rattle.payloads.proofs.saying.member_of.Statement.{statement}
-use Rattle.payloads.proofs.saying.member_of.Tie as tie
+use Rattle.payloads.proofs.Saying.{member-octets}
+use Rattle.payloads.proofs.member_of.Statement.{statement}
+use Rattle.payloads.proofs.member_of.Tie as tie
 
 returns : tie.Need-returns
 returns c =

@@ -1,5 +1,4 @@
 // Which command a message is, and what stands before its own checks (document 01, Commands and codes).
-use crate::Asked;
 use words::BindPart;
 use words::Command;
 use words::Decoded;
@@ -8,6 +7,12 @@ ghost use Rattle.words.specs.Basics.{_≡_, cond};
 ghost use Rattle.rules.specs.Types.{CreateGroup, Is};
 ghost use Rattle.rules.specs.Payloads.{bindCommand, groupCommand, command};
 ghost use Rattle.rules.specs.Commands.{row};
+
+// The two checks that stand before every command's own: whether rights are asked, and how long the payload should be.
+pub struct Asked {
+    pub rights: bool,
+    pub length: usize,
+}
 
 // The command where the member is its own, or else what the members behind it say.
 fn command_or(named: bool, command: Command, rest: Decoded) -> Decoded

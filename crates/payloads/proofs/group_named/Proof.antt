@@ -1,8 +1,8 @@
--- `payloads::saying::group_named` meets its contract. The two octets are the payload's, but for the top bit.
+-- `payloads::group_named` meets its contract. The two octets are the payload's, but for the top bit.
 use Rattle.words.specs.Basics.{arith, now, needs}
-use Rattle.payloads.proofs.Decoded.{group-octets}
-use Rattle.payloads.proofs.saying.group_named.Statement.{statement}
-use Rattle.payloads.proofs.saying.group_named.Tie as tie
+use Rattle.payloads.proofs.Saying.{group-octets}
+use Rattle.payloads.proofs.group_named.Statement.{statement}
+use Rattle.payloads.proofs.group_named.Tie as tie
 
 returns : tie.Need-returns
 returns c =

@@ -1,8 +1,8 @@
--- `payloads::saying::bind_of` meets its contract. The eight octets are the payload's, but for the first one's top bit.
+-- `payloads::bind_of` meets its contract. The eight octets are the payload's, but for the first one's top bit.
 use Rattle.words.specs.Basics.{now, needs}
-use Rattle.payloads.proofs.Decoded.{bind-octets}
-use Rattle.payloads.proofs.saying.bind_of.Statement.{statement}
-use Rattle.payloads.proofs.saying.bind_of.Tie as tie
+use Rattle.payloads.proofs.Saying.{bind-octets}
+use Rattle.payloads.proofs.bind_of.Statement.{statement}
+use Rattle.payloads.proofs.bind_of.Tie as tie
 
 returns : tie.Need-returns
 returns c =

@@ -1,8 +1,8 @@
--- `payloads::saying::source_wanted` meets its contract. The payload is put first, then its first octet's top bit cut off.
+-- `payloads::source_wanted` meets its contract. The payload is put first, then its first octet's top bit cut off.
 use Rattle.words.specs.Basics.{now, needs}
-use Rattle.payloads.proofs.Decoded.{first-ignored}
-use Rattle.payloads.proofs.saying.source_wanted.Statement.{statement}
-use Rattle.payloads.proofs.saying.source_wanted.Tie as tie
+use Rattle.payloads.proofs.Saying.{first-ignored}
+use Rattle.payloads.proofs.source_wanted.Statement.{statement}
+use Rattle.payloads.proofs.source_wanted.Tie as tie
 
 returns : tie.Need-returns
 returns c =

@@ -1,9 +1,9 @@
--- `payloads::decoding::command` meets its contract. One check after the other.
+-- `decoding::command` meets its contract. One check after the other.
 use Rattle.words.specs.Basics.{eq-eqb, ne-eqb, le-leb, lt-leb, needs}
 use Rattle.rules.specs.Lists.{ask, _&_}
 use Rattle.rules.specs.Payloads.{command}
-use Rattle.payloads.proofs.decoding.command.Statement.{statement}
-use Rattle.payloads.proofs.decoding.command.Tie as tie
+use Rattle.decoding.proofs.command.Statement.{statement}
+use Rattle.decoding.proofs.command.Tie as tie
 
 returns : tie.Need-returns
 unfolding command ask _&_

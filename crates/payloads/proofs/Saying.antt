@@ -1,8 +1,7 @@
 -- Payloads octet by octet.
 use lib.Seq.{take-append-seam}
-use Rattle.words.specs.Basics.{_≡_, refl, sym, ap, _∙_, Bool, cond, List, [], _∷_, _++_, ℕ, zero, suc, _+_, _*_, _%_, _<_, _≤_, arith, length, take, drop, getD}
-use Rattle.words.specs.Basics.{set, drop-of-length-le, drop-cons}
-use Rattle.rules.specs.Types.{Command, Decoded, Is}
+use Rattle.words.specs.Basics.{_≡_, refl, sym, ap, _∙_, List, [], _∷_, _++_, ℕ, zero, suc, _+_, _*_, _%_, _<_, _≤_, arith, length, take, drop, getD, set}
+use Rattle.words.specs.Basics.{drop-of-length-le, drop-cons}
 use Rattle.rules.specs.Octets.{octet, word, octets, ignoreTop, over}
 use Rattle.rules.specs.Payloads.{bindOf, memberOf, groupNamed}
 use Rattle.words.specs.Names.{group}
@@ -42,12 +41,3 @@ pub first-ignored : (p old : List ℕ) → 0 < length p → take (length p) (set
 unfolding over ignoreTop
 first-ignored [] old h = absurd (omega arith)
 first-ignored (o ∷ p) old h = ap (λ (s : List ℕ). o % 128 ∷ s) (take-append-seam p (drop (suc (length p)) old))
-
--- the first octet of nothing is 0
-pub first-of-none : (s : List ℕ) → length s ≡ 0 → 1 ≡ 1 + octet 0 s
-first-of-none [] h = refl
-first-of-none (o ∷ s) h = absurd (omega arith)
-
--- a command, or else what the members behind it say
-pub then-rest : (b : Bool) (k : Command) (r s t : Decoded) → r ≡ cond b (Is k) s → s ≡ t → r ≡ cond b (Is k) t
-then-rest b k r s t p q = cc
