@@ -24,7 +24,7 @@ lentBy t = lent (t Devices) (t Binds) (t Groups) (t Members)
 abbrev pub nothingLent : Lent
 nothingLent = lentBy (λ k. [])
 
--- the tables that commands use, beside all else that L has
+-- the tables that commands use, beside all else that L has. These four are all that is lent so far: of L nothing is left.
 abbrev pub beside : Lent → List ℕ → List ℕ → List ℕ → List ℕ → Lent
 beside L ds bs gs ms = lent ds bs gs ms
 
