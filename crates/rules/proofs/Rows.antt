@@ -1,7 +1,7 @@
 -- The rows of document 01, "Rows to try": the cases marked P and the sample of `links`; behind them rows for its "Errors that look reasonable" and for
 -- the order of its checks. Each row is start tables, a message and the whole result: outcome, tables, reply and list. One theorem.
 use Rattle.words.specs.Basics.{_≡_, refl, List, [], _∷_, _++_, ℕ, _+_, _-_, length, replicate}
-use Rattle.rules.specs.Types.{Outcome, Done, Forwarded, WrongLength, WrongDataLength, WrongType, ResponseToMany}
+use Rattle.rules.specs.Types.{Outcome, Done, Forwarded, WrongLength, WrongDataLength, WrongType, ResponseToMany, Unsound}
 use Rattle.rules.specs.Octets.{over}
 use Rattle.rules.specs.Frame.{Lent, nothingLent, beside}
 use Rattle.rules.specs.Calls.{message, Answer, answer}
@@ -102,6 +102,10 @@ row L m a = record { start = L; sent = m; result = a }
 abbrev request : List ℕ
 request = 0x00 ∷ 0x03 ∷ 0x01 ∷ 0x7F ∷ 0xFF ∷ 0xFF ∷ 0x00 ∷ 0x00 ∷ 0x07 ∷ 0x01 ∷ 0x82 ∷ 0x00 ∷ 0x01 ∷ 0x00 ∷ 0x00 ∷ []
 
+-- outcome 16, whatever is sent
+abbrev too-many : Lent → Row
+too-many L = row L request (refuses L Unsound)
+
 abbrev rows : List Row
 rows =
     -- P1, P2
@@ -152,6 +156,11 @@ further =
     (answers start 0x04 0x03 0x05 (0x00 ∷ 0x01 ∷ 0x53 ∷ 0x00 ∷ 0x03 ∷ 0x00 ∷ 0x03 ∷ 0x01 ∷ 0x00 ∷ 0x04 ∷ 0x02 ∷ 0x00 ∷ 0x05 ∷ 0x01 ∷ []))
     -- Remove Bind by destination D'0001 finds no bind to G'0001
     ∷ row (with-binds bind2) (binds 0x03 0x05 (0x00 ∷ 0x01 ∷ [])) (answers (with-binds bind2) 0x03 0x02 0x05 (0x02 ∷ []))
+    -- one free record more than the limit in any table: 16
+    ∷ too-many (beside nothingLent (replicate (256 + 4) 0xFF) [] [] [])
+    ∷ too-many (beside nothingLent [] (replicate (512 + 8) 0xFF) [] [])
+    ∷ too-many (beside nothingLent [] [] (replicate (256 + 16) 0xFF) [])
+    ∷ too-many (beside nothingLent [] [] [] (replicate (640 + 5) 0xFF))
     ∷ []
 
 -- every row of a table comes out as it says
@@ -163,5 +172,5 @@ pub as-told : AsTold rows × AsTold further
 unfolding whole
 as-told = (
   (refl, (refl, (refl, (refl, (refl, (refl, (refl, (refl, (refl, (refl, (refl, (refl, (refl, tt))))))))))))),
-  (refl, (refl, (refl, (refl, (refl, (refl, (refl, (refl, (refl, tt))))))))),
+  (refl, (refl, (refl, (refl, (refl, (refl, (refl, (refl, (refl, (refl, (refl, (refl, (refl, tt))))))))))))),
 )
