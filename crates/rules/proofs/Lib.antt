@@ -21,5 +21,10 @@ pub mod Condition3
 pub mod Stands
 pub mod RoundTrip
 pub mod Whole
+pub mod Samples
+pub mod RowsOfDelivery
+pub mod RowsOfRefusals
+pub mod RowsOfTables
+pub mod RowsOfCommands
 pub mod Rows
 pub mod Worked

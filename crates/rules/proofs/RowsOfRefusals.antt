@@ -1,0 +1,104 @@
+-- Rows: when a message is refused (document 01, Outcomes). Of each the tables, the reply and the list keep every octet.
+use Rattle.words.specs.Basics.{List, [], _∷_, _++_, map, ℕ, _+_, replicate}
+use Rattle.words.specs.declared.Outcome.the-variants.{NotServed}
+use Rattle.rules.specs.Types.{Outcome, Nobody, WrongLength, WrongDataLength, WrongType, NoSource, NoDestination, ResponseToMany, Unsound, NoRoom}
+use Rattle.rules.specs.Frame.{Lent}
+use Rattle.rules.specs.Calls.{Answer, answer}
+use Rattle.rules.proofs.Samples.{Row, row, run, lending, devices, groups, members, threeMembers, named, filled, holding, house, three-one, concentrator}
+use Rattle.rules.proofs.Samples.{to-binds, to-group-one, curtains, bindManagement, groupManagement, letter, request, Sent, sent, reply, list, unchanged}
+
+abbrev plain : Lent
+plain = house []
+
+abbrev refused : List ℕ → Outcome → Row Sent Answer
+refused m o = row (sent plain m) (unchanged plain o)
+
+-- from this unit, to this destination, as this type
+
+abbrev from-it : List ℕ → List ℕ
+from-it from = letter from to-binds 0x01 curtains 0x01 []
+
+abbrev to-it : List ℕ → List ℕ
+to-it to = letter three-one to 0x01 curtains 0x01 []
+
+abbrev typed : List ℕ → ℕ → List ℕ
+typed to type = letter three-one to type curtains 0x01 []
+
+-- 10, 11, 12
+abbrev pub unreadable : List (Row Sent Answer)
+unreadable =
+    -- none, 14 and 501 octets
+    refused [] WrongLength
+    ∷ refused (run 14 0x00_03_01_7F_FF_FF_00_00_07_01_82_00_01_00) WrongLength
+    ∷ refused (letter three-one to-binds 0x01 curtains 0x01 (replicate 486 0x00)) WrongLength
+    -- a data length one too low, one too high
+    ∷ refused (run 16 0x00_03_01_7F_FF_FF_00_00_07_01_82_00_01_00_00_00) WrongDataLength
+    ∷ refused (run 16 0x00_03_01_7F_FF_FF_00_00_07_01_82_00_01_00_02_00) WrongDataLength
+    -- its ninth bit counts
+    ∷ refused (run 15 0x00_03_01_7F_FF_FF_00_00_07_01_82_00_01_01_00) WrongDataLength
+    ∷ refused (typed to-binds 0x00) WrongType
+    ∷ refused (typed to-binds 0x11) WrongType
+    ∷ []
+
+-- 13: no such device, no such unit of a device, of the concentrator
+abbrev pub sources : List (Row Sent Answer)
+sources = map (λ from. refused (from-it from) NoSource) (run 3 0x00_06_00 ∷ run 3 0x00_03_03 ∷ run 3 0x00_00_01 ∷ run 3 0x7F_FF_FF ∷ [])
+
+-- 14: no such device, unit, unit of the concentrator; D'7FFF with another unit; no such group, G'0000, and G'7FFF with unit 0xFF
+abbrev pub destinations : List (Row Sent Answer)
+destinations =
+    map (λ to. refused (to-it to) NoDestination)
+    (run 3 0x00_06_00 ∷ run 3 0x00_05_02 ∷ run 3 0x00_00_01 ∷ run 3 0x7F_FF_00 ∷ run 3 0x80_03_FF ∷ run 3 0x80_00_FF ∷ run 3 0xFF_FF_FF ∷ [])
+
+-- 15: each response type to the bind address; to a group, and to one that does not exist
+abbrev pub responses-to-many : List (Row Sent Answer)
+responses-to-many =
+    map (λ t. refused (typed to-binds t) ResponseToMany) (0x03 ∷ 0x05 ∷ 0x08 ∷ 0x0A ∷ 0x0D ∷ 0x10 ∷ [])
+    ++ refused (typed to-group-one 0x03) ResponseToMany
+    ∷ refused (typed (run 3 0x80_03_FF) 0x0D) ResponseToMany
+    ∷ []
+
+-- a message to the concentrator, as this type, at this interface, with a member and a payload
+abbrev asks : ℕ → List ℕ → ℕ → List ℕ → Row Sent Answer
+asks type interface member p = refused (letter three-one concentrator type interface member p) NotServed
+
+abbrev bind : List ℕ
+bind = run 8 0x00_03_01_82_00_00_04_02
+
+-- 18
+abbrev pub not-served : List (Row Sent Answer)
+not-served =
+    -- Add Bind and Create Group to a client interface, as a response, as another request
+    asks 0x01 (run 2 0x00_02) 0x01 bind
+    ∷ asks 0x01 (run 2 0x00_03) 0x01 (0x00 ∷ [])
+    ∷ asks 0x03 bindManagement 0x01 bind
+    ∷ asks 0x04 bindManagement 0x01 bind
+    ∷ asks 0x03 groupManagement 0x05 (run 2 0x00_01)
+    -- members that are no command, another interface
+    ∷ asks 0x01 bindManagement 0x00 bind
+    ∷ asks 0x01 bindManagement 0x07 []
+    ∷ asks 0x01 groupManagement 0x00 []
+    ∷ asks 0x01 groupManagement 0x06 (run 2 0x00_01)
+    ∷ asks 0x01 (run 2 0x80_01) 0x01 bind
+    ∷ asks 0x01 (run 2 0x80_04) 0x01 bind
+    ∷ []
+
+-- this reply and this list are lent
+abbrev lent : Lent → List ℕ → List ℕ → List ℕ → Outcome → Row Sent Answer
+lent L m r l o = row (record { tables = L; message = m; reply = r; list = l }) (answer o L r l)
+
+abbrev no-records : Lent
+no-records = holding [] [] [] []
+
+-- 17: "reply under 500 octets, or recipient list under 3 × max(1, bind records + member records)"; six records and four, free ones counted
+abbrev pub room : List (Row Sent Answer)
+room =
+    lent plain (from-it three-one) (lending 499 []) list NoRoom
+    ∷ lent plain (from-it three-one) reply (lending 29 []) NoRoom
+    ∷ lent plain (from-it three-one) reply (lending 30 []) Nobody
+    ∷ lent no-records (from-it concentrator) reply (lending 2 []) NoRoom
+    ∷ lent no-records (from-it concentrator) reply (lending 3 []) Nobody
+    -- lengths divided down: 7 octets of binds and 4 of members are no record
+    ∷ lent (holding [] (filled 7 []) [] (filled 4 [])) (from-it concentrator) reply (lending 2 []) NoRoom
+    ∷ lent (holding [] (filled 7 []) [] (filled 4 [])) (from-it concentrator) reply (lending 3 []) Unsound
+    ∷ []

@@ -1,0 +1,93 @@
+-- Rows: tables that are not sound are refused whatever is sent (document 01, Tables: "Tables are sound if"; Outcomes, 16). Each has one fault.
+use Rattle.words.specs.Basics.{List, [], _∷_, _++_, map, ℕ, _+_, replicate}
+use Rattle.rules.specs.Types.{Unsound}
+use Rattle.rules.specs.Frame.{Lent}
+use Rattle.rules.specs.Calls.{Answer, answer}
+use Rattle.rules.proofs.Samples.{Row, row, run, lending, filled, named, devices, groups, members, holding, three-one, curtains, request, Sent}
+use Rattle.rules.proofs.Samples.{sent, reply, goes}
+
+-- the house with one more record, or with other octets, in one table
+
+abbrev with-devices : List ℕ → Lent
+with-devices ds = holding ds [] groups members
+
+abbrev with-device : ℕ → Lent
+with-device r = with-devices (run 4 0x00_03_01_02 ++ run 4 0x00_04_00_02 ++ run 4 0x00_05_00_01 ++ run 4 r)
+
+abbrev with-binds : List ℕ → Lent
+with-binds bs = holding devices bs groups members
+
+abbrev with-bind : ℕ → Lent
+with-bind b = with-binds (run 8 b)
+
+abbrev with-groups : List ℕ → Lent
+with-groups gs = holding devices [] gs members
+
+abbrev with-group : List ℕ → Lent
+with-group g = with-groups (named 1 (0x53 ∷ []) ++ g)
+
+abbrev with-members : List ℕ → Lent
+with-members ms = holding devices [] groups ms
+
+abbrev with-member : ℕ → Lent
+with-member m = with-members (run 5 0x00_01_00_05_01 ++ run 5 m)
+
+-- "each length is a multiple of its record size and within the limit": one octet more, one record more than the limit
+abbrev lengths : List Lent
+lengths =
+    with-devices (devices ++ 0xFF ∷ [])
+    ∷ with-binds (filled 9 [])
+    ∷ with-groups (groups ++ 0xFF ∷ [])
+    ∷ with-members (members ++ 0xFF ∷ [])
+    ∷ with-devices (filled (4 + 256) devices)
+    ∷ with-binds (filled (8 + 512) [])
+    ∷ with-groups (filled (16 + 256) groups)
+    ∷ with-members (filled (5 + 640) members)
+    ∷ []
+
+-- "its fields in range"; "no address is there twice in devices or groups"
+abbrev devices-and-groups : List Lent
+devices-and-groups =
+    -- a device D'0000, D'7FFF, with the top bit; rights 2; highest unit 255; D'0003 again
+    map with-device (0x00_00_01_02 ∷ 0x7F_FF_00_02 ∷ 0x80_06_00_02 ∷ 0x00_06_02_02 ∷ 0x00_06_00_FF ∷ 0x00_03_00_01 ∷ [])
+    -- a group G'0000, G'7FFF; a name of 14; padding 0x01 behind a name of 12; G'0001 again
+    ++ map with-group
+    (named 0 [] ∷ (run 2 0x7F_FF ++ replicate 14 0x00) ∷ (run 3 0x00_02_0E ++ replicate 13 0x41) ∷ (run 3 0x00_02_0C ++ replicate 12 0x41 ++ 0x01 ∷ [])
+    ∷ named 1 [] ∷ [])
+
+-- "no used record twice in binds or members; each device and unit named exists; each group named exists; each bind meets the field rules of Add Bind"
+abbrev binds-and-members : List Lent
+binds-and-members =
+    -- octet 1 with its top bit; no such source, no such unit of it; UID 0x7FFF; destination unit 0xFF; no such destination, no such group; itself
+    map with-bind
+    (0x80_03_01_82_00_00_04_02 ∷ 0x00_06_00_82_00_00_04_02 ∷ 0x00_03_03_82_00_00_04_02 ∷ 0x00_03_01_FF_FF_00_04_02 ∷ 0x00_03_01_82_00_80_01_FF
+    ∷ 0x00_03_01_82_00_00_05_02 ∷ 0x00_03_01_82_00_80_03_00 ∷ 0x00_03_01_82_00_00_03_01 ∷ [])
+    -- a bind twice
+    ++ with-binds (run 8 0x00_03_01_82_00_00_04_02 ++ filled 8 [] ++ run 8 0x00_03_01_82_00_00_04_02)
+    -- no such group, also with the top bit; no such device, no such unit; a member twice
+    ∷ map with-member (0x00_03_00_04_00 ∷ 0x80_01_00_04_00 ∷ 0x00_01_00_06_00 ∷ 0x00_01_00_04_03 ∷ 0x00_01_00_05_01 ∷ [])
+
+-- with a list that is long enough for each of them
+abbrev list : List ℕ
+list = lending 400 []
+
+abbrev unsound : Lent → Row Sent Answer
+unsound L = row (record { tables = L; message = request three-one curtains; reply = reply; list = list }) (answer Unsound L reply list)
+
+abbrev pub table-lengths : List (Row Sent Answer)
+table-lengths = map unsound lengths
+
+abbrev pub fields : List (Row Sent Answer)
+fields = map unsound devices-and-groups
+
+abbrev pub references : List (Row Sent Answer)
+references = map unsound binds-and-members
+
+-- sound: "D'0000 allowed in binds and members"; a group bind with any unit but 0xFF; a name of 13; the lowest and the highest address
+abbrev pub sound : List (Row Sent Answer)
+sound =
+    row (sent concentrator-bound (request three-one curtains)) (goes concentrator-bound 1 0x00_00_00)
+    ∷ []
+  where
+    concentrator-bound : Lent
+    concentrator-bound = holding devices (run 8 0x00_03_01_82_00_00_00_00) groups (run 5 0x00_01_00_00_00)

@@ -1,0 +1,138 @@
+-- What rows are made of: the tables of a house, messages, and the answers that are due. All that is lent to be written is filled with 0xAA, so that an
+-- octet written past those due shows. No definition of an answer is used to say what is due.
+use Rattle.words.specs.Basics.{_≡_, List, [], _∷_, _++_, map, ℕ, zero, suc, _+_, _-_, _*_, _/_, _%_, length, replicate}
+use Rattle.rules.specs.Types.{Outcome, Done, Forwarded}
+use Rattle.rules.specs.Frame.{Lent, nothingLent, beside}
+use Rattle.rules.specs.Calls.{message, Answer, answer}
+
+-- Rows
+
+-- what is asked, and the answer that is due
+pub record Row (A B : Type 0) : Type 0 where
+  pub asked : A
+  pub due : B
+
+abbrev pub row : {A B : Type 0} → A → B → Row A B
+row a b = record { asked = a; due = b }
+
+-- every row of a table comes out as it says
+abbrev pub AsTold : {A B : Type 0} → (A → B) → List (Row A B) → Type 0
+AsTold f rows = map (λ x. f (x .asked)) rows ≡ map (λ x. x .due) rows
+
+-- Octets
+
+-- the last n octets of a number, as the paper writes them down: `run 3 0x00_04_02`
+abbrev pub run : ℕ → ℕ → List ℕ
+run zero w = []
+run (suc n) w = run n (w / 256) ++ w % 256 ∷ []
+
+-- what is lent to be written: n octets that begin so
+abbrev pub lending : ℕ → List ℕ → List ℕ
+lending n written = written ++ replicate (n - length written) 0xAA
+
+-- a table of n octets: these records, the others free
+abbrev pub filled : ℕ → List ℕ → List ℕ
+filled n t = t ++ replicate (n - length t) 0xFF
+
+-- A house: devices 1 (rights 0, highest unit 1), 3 (1, 2), 4 (0, 2) and 5 (0, 1); groups 1 "S" and 2 without a name; members of group 1, by falling
+-- device. Each table has one free record.
+
+abbrev pub devices : List ℕ
+devices = filled 20 (run 4 0x00_01_00_01 ++ run 4 0x00_03_01_02 ++ run 4 0x00_04_00_02 ++ run 4 0x00_05_00_01)
+
+-- a group's record: its address, name length and name, padded with 0x00
+abbrev pub named : ℕ → List ℕ → List ℕ
+named g name = 0x00 ∷ g ∷ length name ∷ (name ++ replicate (13 - length name) 0x00)
+
+abbrev pub groups : List ℕ
+groups = filled 48 (named 1 (0x53 ∷ []) ++ named 2 [])
+
+abbrev pub threeMembers : List ℕ
+threeMembers = run 5 0x00_01_00_05_01 ++ run 5 0x00_01_00_04_02 ++ run 5 0x00_01_00_03_01
+
+abbrev pub members : List ℕ
+members = filled 20 threeMembers
+
+-- tables that hold these octets
+abbrev pub holding : List ℕ → List ℕ → List ℕ → List ℕ → Lent
+holding ds bs gs ms = beside nothingLent ds bs gs ms
+
+-- the house with these binds in a table of six
+abbrev pub house : List ℕ → Lent
+house bs = holding devices (filled 48 bs) groups members
+
+-- Messages
+
+-- who sends: device and unit
+
+abbrev pub three-one : List ℕ
+three-one = run 3 0x00_03_01
+
+abbrev pub four-one : List ℕ
+four-one = run 3 0x00_04_01
+
+abbrev pub concentrator : List ℕ
+concentrator = run 3 0x00_00_00
+
+-- where to: type and address, unit
+
+abbrev pub to-binds : List ℕ
+to-binds = run 3 0x7F_FF_FF
+
+abbrev pub to-group-one : List ℕ
+to-group-one = run 3 0x80_01_FF
+
+-- at which interface: type and UID
+
+abbrev pub curtains : List ℕ
+curtains = run 2 0x82_00
+
+abbrev pub bindManagement : List ℕ
+bindManagement = run 2 0x80_02
+
+abbrev pub groupManagement : List ℕ
+groupManagement = run 2 0x80_03
+
+-- sender, destination, message type, interface, member, payload; App Ref 7
+abbrev pub letter : List ℕ → List ℕ → ℕ → List ℕ → ℕ → List ℕ → List ℕ
+letter from to type interface member p = from ++ to ++ run 3 0x00_00_07 ++ type ∷ interface ++ member ∷ run 2 (length p) ++ p
+
+-- to the bind address from this unit, at this interface
+abbrev pub request : List ℕ → List ℕ → List ℕ
+request from interface = letter from to-binds 0x01 interface 0x01 []
+
+-- What is sent, and what is due
+
+pub record Sent : Type 0 where
+  pub tables : Lent
+  pub message : List ℕ
+  pub reply : List ℕ
+  pub list : List ℕ
+
+abbrev pub answerTo : Sent → Answer
+answerTo s = message (s .tables) (s .message) (s .reply) (s .list)
+
+-- the reply and the list that are lent
+
+abbrev pub reply : List ℕ
+reply = lending 500 []
+
+abbrev pub list : List ℕ
+list = lending 33 []
+
+abbrev pub sent : Lent → List ℕ → Sent
+sent L m = record { tables = L; message = m; reply = reply; list = list }
+
+-- nothing written
+abbrev pub unchanged : Lent → Outcome → Answer
+unchanged L o = answer o L reply list
+
+-- handed on to these n units
+abbrev pub goes : Lent → ℕ → ℕ → Answer
+goes L n us = answer (Forwarded n) L reply (lending 33 (run (3 * n) us))
+
+-- answered with this payload: the tables that are left, and the reply to who sent the command
+abbrev pub replied : Lent → List ℕ → List ℕ → ℕ → List ℕ → Answer
+replied L to interface member p =
+    answer (Done (15 + length p)) L
+    (lending 500 (run 3 0x00_00_00 ++ to ++ run 4 0x00_00_07_03 ++ interface ++ member ∷ run 2 (length p) ++ p)) list
