@@ -21,10 +21,12 @@ pub mod Condition3
 pub mod Stands
 pub mod RoundTrip
 pub mod Whole
+pub mod Precedence
 pub mod Samples
 pub mod RowsOfDelivery
 pub mod RowsOfRefusals
 pub mod RowsOfTables
 pub mod RowsOfCommands
+pub mod RowsOfCalls
 pub mod Rows
 pub mod Worked

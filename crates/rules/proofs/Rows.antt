@@ -1,16 +1,18 @@
--- The rows of document 01, "Rows to try": the cases marked P and the sample of `links`, from tables of full size. Rows for its other sentences are in
--- `Sending` (who gets a message), `Refusing` (when it is refused) and `Ordering` (commands); all of them are one theorem here.
+-- The rows of document 01, "Rows to try": the cases marked P and the sample of `links`, from tables of full size. Then all rows in one theorem: these,
+-- and those of `RowsOfDelivery`, `RowsOfRefusals`, `RowsOfTables`, `RowsOfCommands` and `RowsOfCalls`, which speak of the paper's other sentences.
 use Rattle.words.specs.Basics.{refl, List, [], _∷_, _++_, ℕ}
-use Rattle.rules.specs.Types.{Outcome, WrongLength, WrongType, ResponseToMany, Forwarded}
+use Rattle.rules.specs.Types.{Outcome, WrongLength, WrongType, ResponseToMany, Done, Forwarded}
 use Rattle.rules.specs.Frame.{Lent}
+use Rattle.rules.specs.Message.{reading}
 use Rattle.rules.specs.Calls.{Answer, answer}
 use Rattle.rules.proofs.Whole.{whole}
 use Rattle.rules.proofs.RowsOfDelivery as delivery
 use Rattle.rules.proofs.RowsOfRefusals as refusals
 use Rattle.rules.proofs.RowsOfTables as unsound
 use Rattle.rules.proofs.RowsOfCommands as commands
+use Rattle.rules.proofs.RowsOfCalls as calls
 use Rattle.rules.proofs.Samples.{Row, row, AsTold, run, lending, filled, named, threeMembers, holding, three-one, four-one, to-group-one, curtains}
-use Rattle.rules.proofs.Samples.{bindManagement, letter, request, Sent, answerTo, reply, replied}
+use Rattle.rules.proofs.Samples.{bindManagement, letter, request, Sent, answerTo, reply}
 
 -- devices 3 (rights 1, highest 2), 4 (0, 2), 5 (0, 1); group 1 named "S"; members 5:01, 4:02, 3:01 in that order; these binds
 abbrev start : List ℕ → Lent
@@ -21,16 +23,23 @@ start bs =
 abbrev list : List ℕ
 list = lending 579 []
 
-abbrev paper-row : Lent → List ℕ → Answer → Row Sent Answer
-paper-row L m a = row (record { tables = L; message = m; reply = reply; list = list }) (record { outcome = a .outcome; tables = a .tables; reply = a .reply; list = list })
+abbrev starting : List ℕ → List ℕ → Answer → Row Sent Answer
+starting bs m a = row (record { tables = start bs; message = m; reply = reply; list = list }) a
 
--- Add Bind from 3:01 into free binds, the binds that are left, and its code
+-- a message to D'0:U'0 in free binds, and its one-octet reply
+
+abbrev adding : List ℕ → List ℕ → List ℕ
+adding from p = letter from (run 3 0x00_00_00) 0x01 bindManagement 0x01 p
+
+abbrev coded : List ℕ → List ℕ → ℕ → Answer
+coded bs to code = answer (Done 16) (start bs) (lending 500 (run 3 0x00_00_00 ++ to ++ run 9 0x00_00_07_03_80_02_01_00_01 ++ code ∷ [])) list
+
+-- Add Bind from 3:01: the binds before, its payload, the binds after, its code
 abbrev adds : List ℕ → List ℕ → List ℕ → ℕ → Row Sent Answer
-adds before p after code =
-    paper-row (start before) (letter three-one (run 3 0) 0x01 bindManagement 0x01 p) (replied (start after) three-one bindManagement 0x01 (code ∷ []))
+adds before p after code = starting before (adding three-one p) (coded after three-one code)
 
 abbrev refuses : List ℕ → Outcome → Row Sent Answer
-refuses m o = paper-row (start []) m (answer o (start []) reply list)
+refuses m o = starting [] m (answer o (start []) reply list)
 
 abbrev bind1 : List ℕ
 bind1 = run 8 0x00_03_01_82_00_00_04_02
@@ -50,7 +59,7 @@ paper =
     ∷ adds [] (run 8 0x80_03_01_82_00_00_04_02) bind1 0x00
     ∷ adds bind1 bind1 bind1 0x02
     -- P5 from device 4, P6 seven octets
-    ∷ paper-row (start []) (letter four-one (run 3 0) 0x01 bindManagement 0x01 bind1) (replied (start []) four-one bindManagement 0x01 (0x01 ∷ []))
+    ∷ starting [] (adding four-one bind1) (coded [] four-one 0x01)
     ∷ adds [] (run 7 0x00_03_01_82_00_00_04) [] 0x02
     -- P7 destination 5:02, P8 destination 5:01, P9 destination 3:01
     ∷ adds [] (run 8 0x00_03_01_82_00_00_05_02) [] 0x02
@@ -58,14 +67,13 @@ paper =
     ∷ adds [] (run 8 0x00_03_01_82_00_00_03_01) [] 0x02
     -- P10 fourteen octets, P11 type 0x11, P12 type 0x03 to G'0001
     ∷ refuses (run 14 0x00_03_01_00_00_00_00_00_07_01_80_02_01_00) WrongLength
-    ∷ refuses (letter three-one (run 3 0) 0x11 bindManagement 0x01 bind1) WrongType
+    ∷ refuses (letter three-one (run 3 0x00_00_00) 0x11 bindManagement 0x01 bind1) WrongType
     ∷ refuses (letter three-one to-group-one 0x03 bindManagement 0x01 bind1) ResponseToMany
     -- the sample of `links`: 4:02 once, though by bind and by group, and 3:01, the sender, not at all
-    ∷ row (record { tables = start (bind1 ++ bind2); message = request three-one curtains; reply = reply; list = list })
-    (answer (Forwarded 2) (start (bind1 ++ bind2)) reply (lending 579 (run 6 0x00_04_02_00_05_01)))
+    ∷ starting (bind1 ++ bind2) (request three-one curtains) (answer (Forwarded 2) (start (bind1 ++ bind2)) reply (lending 579 (run 6 0x00_04_02_00_05_01)))
     ∷ []
 
--- Every row, by what it is about
+-- Every row, by what it is about: where one fails, the check names its table
 pub record Told : Type 0 where
   pub paper : AsTold answerTo paper
   pub matching : AsTold answerTo delivery.matching
@@ -79,6 +87,7 @@ pub record Told : Type 0 where
   pub responses-to-many : AsTold answerTo refusals.responses-to-many
   pub not-served : AsTold answerTo refusals.not-served
   pub room : AsTold answerTo refusals.room
+  pub order : AsTold answerTo refusals.order
   pub table-lengths : AsTold answerTo unsound.table-lengths
   pub fields : AsTold answerTo unsound.fields
   pub references : AsTold answerTo unsound.references
@@ -92,6 +101,10 @@ pub record Told : Type 0 where
   pub get-group-info : AsTold answerTo commands.get-group-info
   pub payload-lengths : AsTold answerTo commands.payload-lengths
   pub rights : AsTold answerTo commands.rights
+  pub reads : AsTold reading calls.reads
+  pub copies : AsTold calls.copyOf calls.copies
+  pub admissions : AsTold calls.admitOf calls.admissions
+  pub releases : AsTold calls.releaseOf calls.releases
 
 pub as-told : Told
 unfolding whole
@@ -108,6 +121,7 @@ as-told = record {
   responses-to-many = refl;
   not-served = refl;
   room = refl;
+  order = refl;
   table-lengths = refl;
   fields = refl;
   references = refl;
@@ -121,4 +135,8 @@ as-told = record {
   get-group-info = refl;
   payload-lengths = refl;
   rights = refl;
+  reads = refl;
+  copies = refl;
+  admissions = refl;
+  releases = refl;
 }

@@ -180,7 +180,8 @@ delete-group =
   where
     deletes : ℕ → Row Sent Answer
     deletes g =
-        grants groupManagement 0x02 (run 2 g) five (holding devices (filled 48 (a ++ b ++ c ++ gone ++ e)) (filled 16 [] ++ named 2 [] ++ filled 16 []) (filled 20 []))
+        grants groupManagement 0x02 (run 2 g) five
+        (holding devices (filled 48 (a ++ b ++ c ++ gone ++ e)) (filled 16 [] ++ named 2 [] ++ filled 16 []) (filled 20 []))
 
 -- Add to Group and Remove from Group: the members that are left
 
@@ -266,7 +267,7 @@ payload-lengths = flatMap (λ g. wrong g (take (length (g .payload) - 1) (g .pay
     wrong : Given → List ℕ → Row Sent Answer
     wrong g p = code 0x02 (g .interface) (g .member) five p
 
--- "0x01 sender's rights are 0.": from device 4, with a payload that is too short, so that rights are asked first
+-- "0x01 sender's rights are 0.": from device 4, also with a payload of a wrong length, which is asked behind it
 abbrev pub rights : List (Row Sent Answer)
 rights =
     map (λ g. unauthorized g (g .payload)) (take 10 eleven)
@@ -274,12 +275,15 @@ rights =
     -- "Not applied to Get Group Info."
     ++ row (sent plain (letter four-one concentrator 0x01 groupManagement 0x05 (run 2 0x00_02))) (replied plain four-one groupManagement 0x05 (run 4 0))
     -- the concentrator's are 1; "Commands of type 0x01 and 0x02 both get it."
-    ∷ row (sent plain (letter concentrator concentrator 0x01 bindManagement 0x01 to-four)) (replied (house to-four) concentrator bindManagement 0x01 (0x00 ∷ []))
-    ∷ row (sent plain (letter three-one concentrator 0x02 bindManagement 0x01 to-four)) (replied (house to-four) three-one bindManagement 0x01 (0x00 ∷ []))
+    ∷ bound-by concentrator (letter concentrator concentrator 0x01 bindManagement 0x01 to-four)
+    ∷ bound-by three-one (letter three-one concentrator 0x02 bindManagement 0x01 to-four)
     -- reserved bits and transport are ignored, and 0 in the reply
-    ∷ row (sent plain (run 15 0x80_03_01_00_00_00_AA_BB_07_01_80_02_01_FE_08 ++ to-four)) (replied (house to-four) three-one bindManagement 0x01 (0x00 ∷ []))
+    ∷ bound-by three-one (run 15 0x80_03_01_00_00_00_AA_BB_07_01_80_02_01_FE_08 ++ to-four)
     ∷ []
   where
     unauthorized : Given → List ℕ → Row Sent Answer
     unauthorized g p =
         row (sent five (letter four-one concentrator 0x01 (g .interface) (g .member) p)) (replied five four-one (g .interface) (g .member) (0x01 ∷ []))
+
+    bound-by : List ℕ → List ℕ → Row Sent Answer
+    bound-by from m = row (sent plain m) (replied (house to-four) from bindManagement 0x01 (0x00 ∷ []))

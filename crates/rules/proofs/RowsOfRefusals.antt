@@ -102,3 +102,28 @@ room =
     ∷ lent (holding [] (filled 7 []) [] (filled 4 [])) (from-it concentrator) reply (lending 2 []) NoRoom
     ∷ lent (holding [] (filled 7 []) [] (filled 4 [])) (from-it concentrator) reply (lending 3 []) Unsound
     ∷ []
+
+-- "Order for a message: 17, 16, 10, 11, 12, 13, 15, then 18 for D'0:U'0 or 14 for the rest.": from row to row one fault less, so that each has its own
+-- fault and that of the next
+
+abbrev cut-off : Lent
+cut-off = holding (devices ++ 0xFF ∷ []) (filled 48 []) groups members
+
+-- 14 octets with a data length of 256, type 0x11, from a device that is not there
+abbrev all-wrong : List ℕ
+all-wrong = run 14 0x00_06_00_80_03_FF_00_00_07_11_82_00_01_01
+
+abbrev pub order : List (Row Sent Answer)
+order =
+    lent cut-off all-wrong (lending 499 []) list NoRoom
+    ∷ lent cut-off all-wrong reply list Unsound
+    ∷ refused all-wrong WrongLength
+    ∷ refused (all-wrong ++ 0x00 ∷ []) WrongDataLength
+    ∷ refused (run 15 0x00_06_00_80_03_FF_00_00_07_11_82_00_01_00_00) WrongType
+    ∷ refused (run 15 0x00_06_00_80_03_FF_00_00_07_03_82_00_01_00_00) NoSource
+    ∷ refused (run 15 0x00_03_01_80_03_FF_00_00_07_03_82_00_01_00_00) ResponseToMany
+    ∷ refused (run 15 0x00_03_01_80_03_FF_00_00_07_01_82_00_01_00_00) NoDestination
+    -- to D'0:U'0, at an interface that is not served
+    ∷ refused (run 15 0x00_06_00_00_00_00_00_00_07_03_82_00_01_00_00) NoSource
+    ∷ refused (run 15 0x00_03_01_00_00_00_00_00_07_03_82_00_01_00_00) NotServed
+    ∷ []

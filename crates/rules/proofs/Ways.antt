@@ -11,7 +11,7 @@ use Rattle.rules.specs.Frame.{Lent, tables}
 use Rattle.rules.specs.Message.{fields, destination, lengthFits, dataLengthFits, typeFits, reads}
 use Rattle.rules.specs.Sound.{sound}
 use Rattle.rules.specs.Payloads.{command}
-use Rattle.rules.specs.Calls.{roomy, asking, wayTo, wayOn, way, answer, follow, message}
+use Rattle.rules.specs.Calls.{roomy, asking, wayTo, wayOn, way}
 
 -- what a message that acts has passed
 pub record Acting (L : Lent) (m r l : List ℕ) : Type 0 where
@@ -92,15 +92,3 @@ module _ {L : Lent} {m r l : List ℕ} where
 
   pub forward-known : {to : Destination} → way L m r l ≡ Forward to → Acting L m r l × (destination (fields m) ≡ to)
   forward-known e = forward-ways (ways L m r l) e
-
--- What decides a message before it is read
-
--- short room is told first, whatever the tables and the message hold
-pub room-first : (L : Lent) (m r l : List ℕ) → roomy (L .binds) (L .members) r l ≡ false → message L m r l ≡ answer NoRoom L r l
-unfolding message way follow ask
-room-first L m r l h = rw h
-
--- then tables that are not sound, whatever the message holds
-pub sound-next : (L : Lent) (m r l : List ℕ) → roomy (L .binds) (L .members) r l ≡ true → sound L ≡ false → message L m r l ≡ answer Unsound L r l
-unfolding message way follow ask
-sound-next L m r l h s = rw (h, s)
