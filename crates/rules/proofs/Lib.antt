@@ -30,3 +30,4 @@ pub mod RowsOfCommands
 pub mod RowsOfCalls
 pub mod Rows
 pub mod Worked
+pub mod NotVacuous

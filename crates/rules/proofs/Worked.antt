@@ -1,13 +1,14 @@
 -- The run of docs/HISTORY.md, call by call: whether it was granted, what stands after it, and where a request then goes. One theorem.
-use Rattle.words.specs.Basics.{_≡_, refl, ap, _∙_, Bool, true, false, cond, List, [], _∷_, _++_, ℕ, length, replicate}
-use Rattle.rules.specs.Types.{Kind, Binds, Members, Outcome, Forwarded, Nobody}
-use Rattle.rules.specs.Octets.{over}
+use Rattle.words.specs.Basics.{_≡_, refl, ap, _∙_, Bool, true, false, cond, List, [], _∷_, _++_, map, ℕ}
 use Rattle.words.specs.Names.{device}
+use Rattle.rules.specs.Types.{Kind, Binds, Members, Outcome, Forwarded, Nobody}
 use Rattle.rules.specs.Tables.{Rec}
-use Rattle.rules.specs.Frame.{Lent, nothingLent, beside}
+use Rattle.rules.specs.Frame.{Lent}
 use Rattle.rules.specs.Calls.{message}
 use Rattle.rules.specs.History.{Call, sends, admits, releases, said, left, after, history, granted, stand, standing, entries}
 use Rattle.rules.proofs.Whole.{whole}
+use Rattle.rules.proofs.Samples.{run, lending, filled, named, holding, three-one, concentrator, curtains, bindManagement, groupManagement, letter}
+use Rattle.rules.proofs.Samples.{request, reply}
 
 -- what is known at one place of a run: the tables, and the binds and members that stand by history
 pub record Place : Type 0 where
@@ -26,17 +27,19 @@ pub record Line : Type 0 where
   pub outcome : Outcome
   pub sent : List ℕ
 
-abbrev reply : List ℕ
-reply = replicate 500 0x00
-
-abbrev list : List ℕ
-list = replicate 12 0x00
+-- the list that is lent: three octets for each of two bind records and two member records
+abbrev pub list : List ℕ
+list = lending 12 []
 
 abbrev line : Call → Bool → Place → Outcome → List ℕ → Line
-line c g p o us = record { call = c; given = g; place = p; outcome = o; sent = over us list }
+line c g p o us = record { call = c; given = g; place = p; outcome = o; sent = lending 12 us }
 
-abbrev pub request : List ℕ
-request = 0x00 ∷ 0x03 ∷ 0x01 ∷ 0x7F ∷ 0xFF ∷ 0xFF ∷ 0x00 ∷ 0x00 ∷ 0x07 ∷ 0x01 ∷ 0x82 ∷ 0x00 ∷ 0x01 ∷ 0x00 ∷ 0x00 ∷ []
+abbrev pub asked : List ℕ
+asked = request three-one curtains
+
+-- a page behind a call
+abbrev entered : Call → Bool → Kind → List Rec → List Rec
+entered c granted k page = cond granted (stand (entries c k) page) page
 
 -- the line that a call makes at a place
 abbrev worked : Place → Call → Line
@@ -46,9 +49,9 @@ worked p c =
     record {
       call = c;
       given = g;
-      place = place L (cond g (stand (entries c Binds) (p .binds)) (p .binds)) (cond g (stand (entries c Members) (p .group)) (p .group));
-      outcome = message L request reply list .outcome;
-      sent = message L request reply list .list;
+      place = place L (entered c g Binds (p .binds)) (entered c g Members (p .group));
+      outcome = message L asked reply list .outcome;
+      sent = message L asked reply list .list;
     }
 
 abbrev Computing : Place → List Line → Type 0
@@ -60,8 +63,8 @@ pub record AsSaid (L : Lent) (cs : List Call) (x : Line) : Type 0 where
   pub answered : granted (x .call) (said (after L cs) (x .call)) ≡ x .given
   pub binds : standing Binds (history L (x .call ∷ cs)) ≡ x .place .binds
   pub group : standing Members (history L (x .call ∷ cs)) ≡ x .place .group
-  pub outcome : message (after L (x .call ∷ cs)) request reply list .outcome ≡ x .outcome
-  pub sent : message (after L (x .call ∷ cs)) request reply list .list ≡ x .sent
+  pub outcome : message (after L (x .call ∷ cs)) asked reply list .outcome ≡ x .outcome
+  pub sent : message (after L (x .call ∷ cs)) asked reply list .list ≡ x .sent
 
 abbrev pub Saying : Lent → List Call → List Line → Type 0
 Saying L cs [] = Unit {0}
@@ -78,12 +81,12 @@ module _ (L : Lent) where
   unfolding after history standing
   step cs p x a e = record {
     tables = rw (a .tables) (ap (λ (l : Line). l .place .tables) e);
-    binds = rw (a .tables) (ap (entered Binds) (a .binds) ∙ ap (λ (l : Line). l .place .binds) e);
-    group = rw (a .tables) (ap (entered Members) (a .group) ∙ ap (λ (l : Line). l .place .group) e);
+    binds = rw (a .tables) (ap (page Binds) (a .binds) ∙ ap (λ (l : Line). l .place .binds) e);
+    group = rw (a .tables) (ap (page Members) (a .group) ∙ ap (λ (l : Line). l .place .group) e);
   }
     where
-      entered : Kind → List Rec → List Rec
-      entered k l = cond (granted (x .call) (said (p .tables) (x .call))) (stand (entries (x .call) k) l) l
+      page : Kind → List Rec → List Rec
+      page k l = entered (x .call) (granted (x .call) (said (p .tables) (x .call))) k l
 
   saying : (cs : List Call) (p : Place) (xs : List Line) → At L cs p → Computing p xs → Saying L cs xs
   unfolding after
@@ -102,80 +105,88 @@ module _ (L : Lent) where
 
 -- The run: devices 3, 4 and 5; a bind table of two records, room for one group and for two members
 
-abbrev three-devices : List ℕ
-three-devices = 0x00 ∷ 0x03 ∷ 0x01 ∷ 0x02 ∷ 0x00 ∷ 0x04 ∷ 0x00 ∷ 0x02 ∷ 0x00 ∷ 0x05 ∷ 0x00 ∷ 0x01 ∷ []
+abbrev D3 : Rec
+D3 = run 4 0x00_03_01_02
 
-abbrev two-devices : List ℕ
-two-devices = 0x00 ∷ 0x03 ∷ 0x01 ∷ 0x02 ∷ 0x00 ∷ 0x04 ∷ 0x00 ∷ 0x02 ∷ 0xFF ∷ 0xFF ∷ 0xFF ∷ 0xFF ∷ []
+abbrev D4 : Rec
+D4 = run 4 0x00_04_00_02
 
-abbrev free : ℕ → List ℕ
-free n = replicate n 0xFF
+abbrev D5 : Rec
+D5 = run 4 0x00_05_00_01
 
 abbrev S : Rec
-S = 0x00 ∷ 0x01 ∷ 0x01 ∷ 0x53 ∷ replicate 12 0x00
+S = named 1 (0x53 ∷ [])
 
 abbrev A : Rec
-A = 0x00 ∷ 0x03 ∷ 0x01 ∷ 0x82 ∷ 0x00 ∷ 0x00 ∷ 0x04 ∷ 0x02 ∷ []
+A = run 8 0x00_03_01_82_00_00_04_02
 
 abbrev B : Rec
-B = 0x00 ∷ 0x03 ∷ 0x01 ∷ 0x82 ∷ 0x00 ∷ 0x80 ∷ 0x01 ∷ 0x00 ∷ []
+B = run 8 0x00_03_01_82_00_80_01_00
 
 abbrev four : Rec
-four = 0x00 ∷ 0x01 ∷ 0x00 ∷ 0x04 ∷ 0x02 ∷ []
+four = run 5 0x00_01_00_04_02
 
 abbrev five : Rec
-five = 0x00 ∷ 0x01 ∷ 0x00 ∷ 0x05 ∷ 0x01 ∷ []
+five = run 5 0x00_01_00_05_01
 
--- tables that hold these octets
-abbrev holding : List ℕ → List ℕ → List ℕ → List ℕ → Lent
-holding ds bs gs ms = beside nothingLent ds bs gs ms
+-- tables that hold these octets, the other records free
+abbrev tables : List ℕ → List ℕ → List ℕ → List ℕ → Lent
+tables ds bs gs ms = holding (filled 12 ds) (filled 16 bs) (filled 16 gs) (filled 10 ms)
 
-abbrev start : Lent
-start = holding (free 12) (free 16) (free 16) (free 10)
+abbrev pub start : Lent
+start = tables [] [] [] []
 
--- .. with these binds, groups and members, and with no group: three devices admitted
-abbrev with-group : List ℕ → List ℕ → Lent
-with-group bs ms = holding three-devices bs S ms
+-- three devices are there, and these binds, groups and members
+abbrev three : List ℕ → List ℕ → List ℕ → List Rec → List Rec → Place
+three bs gs ms binds group = place (tables (D3 ++ D4 ++ D5) bs gs ms) binds group
 
--- a command from 3:01 to a server interface: UID, member, payload
-abbrev gives : ℕ → ℕ → List ℕ → Call
-gives uid number p =
-    sends ((0x00 ∷ 0x03 ∷ 0x01 ∷ 0x00 ∷ 0x00 ∷ 0x00 ∷ 0x00 ∷ 0x00 ∷ 0x07 ∷ 0x01 ∷ 0x80 ∷ uid ∷ number ∷ 0x00 ∷ []) ++ length p ∷ p) reply list
+-- a command from 3:01: interface, member, payload
+abbrev gives : List ℕ → ℕ → List ℕ → Call
+gives interface member p = sends (letter three-one concentrator 0x01 interface member p) reply list
+
+abbrev gone : List ℕ → List ℕ
+gone r = map (λ o. 0xFF) r
 
 abbrev to-four : List ℕ
-to-four = 0x00 ∷ 0x04 ∷ 0x02 ∷ []
+to-four = run 3 0x00_04_02
 
 abbrev to-five : List ℕ
-to-five = 0x00 ∷ 0x05 ∷ 0x01 ∷ []
+to-five = run 3 0x00_05_01
 
-abbrev lines : List Line
-lines =
-    line (admits (device 3) 1 2) true (place (holding (0x00 ∷ 0x03 ∷ 0x01 ∷ 0x02 ∷ free 8) (free 16) (free 16) (free 10)) [] []) Nobody []
-    ∷ line (admits (device 4) 0 2) true (place (holding two-devices (free 16) (free 16) (free 10)) [] []) Nobody []
-    ∷ line (admits (device 5) 0 1) true (place (holding three-devices (free 16) (free 16) (free 10)) [] []) Nobody []
+-- to the place where both binds and both members stand
+abbrev pub linking : List Line
+linking =
+    line (admits (device 3) 1 2) true (place (tables D3 [] [] []) [] []) Nobody []
+    ∷ line (admits (device 4) 0 2) true (place (tables (D3 ++ D4) [] [] []) [] []) Nobody []
+    ∷ line (admits (device 5) 0 1) true (three [] [] [] [] []) Nobody []
     -- Create Group "S"; Add to Group 4:02 and 5:01
-    ∷ line (gives 0x03 0x01 (0x01 ∷ 0x53 ∷ [])) true (place (with-group (free 16) (free 10)) [] []) Nobody []
-    ∷ line (gives 0x03 0x03 four) true (place (with-group (free 16) (four ++ free 5)) [] (four ∷ [])) Nobody []
-    ∷ line (gives 0x03 0x03 five) true (place (with-group (free 16) (four ++ five)) [] (five ∷ four ∷ [])) Nobody []
+    ∷ line (gives groupManagement 0x01 (run 2 0x01_53)) true (three [] S [] [] []) Nobody []
+    ∷ line (gives groupManagement 0x03 four) true (three [] S four [] (four ∷ [])) Nobody []
+    ∷ line (gives groupManagement 0x03 five) true (three [] S (four ++ five) [] (five ∷ four ∷ [])) Nobody []
     -- Add Bind A and B, and B again: 0x02
-    ∷ line (gives 0x02 0x01 A) true (place (with-group (A ++ free 8) (four ++ five)) (A ∷ []) (five ∷ four ∷ [])) (Forwarded 1) to-four
-    ∷ line (gives 0x02 0x01 B) true (place (with-group (A ++ B) (four ++ five)) (B ∷ A ∷ []) (five ∷ four ∷ [])) (Forwarded 2) (to-four ++ to-five)
-    ∷ line (gives 0x02 0x01 B) false (place (with-group (A ++ B) (four ++ five)) (B ∷ A ∷ []) (five ∷ four ∷ [])) (Forwarded 2) (to-four ++ to-five)
-    -- Remove from Group 4:02, Remove Bind by destination D'4
-    ∷ line (gives 0x03 0x04 four) true (place (with-group (A ++ B) (free 5 ++ five)) (B ∷ A ∷ []) (five ∷ [])) (Forwarded 2) (to-four ++ to-five)
-    ∷ line (gives 0x02 0x05 (0x00 ∷ 0x04 ∷ [])) true (place (with-group (free 8 ++ B) (free 5 ++ five)) (B ∷ []) (five ∷ [])) (Forwarded 1) to-five
-    -- Release and admit device 5
-    ∷ line (releases (device 5)) true (place (holding two-devices (free 8 ++ B) S (free 10)) (B ∷ []) []) Nobody []
-    ∷ line (admits (device 5) 0 1) true (place (with-group (free 8 ++ B) (free 10)) (B ∷ []) []) Nobody []
-    -- Delete Group 1, Create Group "S"
-    ∷ line (gives 0x03 0x02 (0x00 ∷ 0x01 ∷ [])) true (place (holding three-devices (free 16) (free 16) (free 10)) [] []) Nobody []
-    ∷ line (gives 0x03 0x01 (0x01 ∷ 0x53 ∷ [])) true (place (with-group (free 16) (free 10)) [] []) Nobody []
+    ∷ line (gives bindManagement 0x01 A) true (three A S (four ++ five) (A ∷ []) (five ∷ four ∷ [])) (Forwarded 1) to-four
+    ∷ line (gives bindManagement 0x01 B) true (three (A ++ B) S (four ++ five) (B ∷ A ∷ []) (five ∷ four ∷ [])) (Forwarded 2) (to-four ++ to-five)
+    ∷ line (gives bindManagement 0x01 B) false (three (A ++ B) S (four ++ five) (B ∷ A ∷ []) (five ∷ four ∷ [])) (Forwarded 2) (to-four ++ to-five)
     ∷ []
 
-line-by-line : Computing (place start [] []) lines
+-- and from there
+abbrev unlinking : List Line
+unlinking =
+    -- Remove from Group 4:02, Remove Bind by destination D'4
+    line (gives groupManagement 0x04 four) true (three (A ++ B) S (gone four ++ five) (B ∷ A ∷ []) (five ∷ [])) (Forwarded 2) (to-four ++ to-five)
+    ∷ line (gives bindManagement 0x05 (run 2 0x00_04)) true (three (gone A ++ B) S (gone four ++ five) (B ∷ []) (five ∷ [])) (Forwarded 1) to-five
+    -- Release and admit device 5
+    ∷ line (releases (device 5)) true (place (tables (D3 ++ D4) (gone A ++ B) S []) (B ∷ []) []) Nobody []
+    ∷ line (admits (device 5) 0 1) true (three (gone A ++ B) S [] (B ∷ []) []) Nobody []
+    -- Delete Group 1, Create Group "S"
+    ∷ line (gives groupManagement 0x02 (run 2 0x00_01)) true (three [] [] [] [] []) Nobody []
+    ∷ line (gives groupManagement 0x01 (run 2 0x01_53)) true (three [] S [] [] []) Nobody []
+    ∷ []
+
+line-by-line : Computing (place start [] []) (linking ++ unlinking)
 unfolding whole
 line-by-line = (refl, (refl, (refl, (refl, (refl, (refl, (refl, (refl, (refl, (refl, (refl, (refl, (refl, (refl, (refl, tt)))))))))))))))
 
-pub as-worked : Saying start [] lines
+pub as-worked : Saying start [] (linking ++ unlinking)
 unfolding after history standing
-as-worked = saying start [] (place start [] []) lines (record { tables = refl; binds = refl; group = refl }) line-by-line
+as-worked = saying start [] (place start [] []) (linking ++ unlinking) (record { tables = refl; binds = refl; group = refl }) line-by-line
