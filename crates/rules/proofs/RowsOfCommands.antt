@@ -143,10 +143,10 @@ grouped gs ms = holding devices (filled 48 []) gs ms
 
 -- Create Group: the groups that are left, and the address in the reply
 abbrev creates : List ℕ → List ℕ → List ℕ → ℕ → Row Sent Answer
-creates p before after g = command groupManagement 0x01 p (grouped before members) (grouped after members) (run 3 g)
+creates p before after g = command groupManagement 0x01 p (grouped before []) (grouped after []) (run 3 g)
 
 abbrev no-group : ℕ → List ℕ → List ℕ → Row Sent Answer
-no-group c gs p = code c groupManagement 0x01 (grouped gs members) p
+no-group c gs p = code c groupManagement 0x01 (grouped gs []) p
 
 abbrev two : List ℕ
 two = named 1 (0x53 ∷ []) ++ named 2 []
@@ -159,8 +159,8 @@ abbrev pub create-group : List (Row Sent Answer)
 create-group =
     -- the smallest address not in use, in the first free record; a name that is there, none, and one of 13 octets
     creates (run 2 0x01_53) groups (two ++ named 3 (0x53 ∷ [])) 0x00_00_03
-    ∷ creates (0x00 ∷ []) (filled 48 (named 1 [])) (filled 48 (named 1 [] ++ named 2 [])) 0x00_00_02
-    ∷ creates (0x0D ∷ name 13) (filled 16 [] ++ named 3 [] ++ named 1 []) (named 2 (name 13) ++ named 3 [] ++ named 1 []) 0x00_00_02
+    ∷ creates (0x00 ∷ []) (filled 48 (named 3 [] ++ named 1 [])) (named 3 [] ++ named 1 [] ++ named 2 []) 0x00_00_02
+    ∷ creates (0x0D ∷ name 13) (filled 16 [] ++ named 3 [] ++ named 2 []) (named 1 (name 13) ++ named 3 [] ++ named 2 []) 0x00_00_01
     -- 0xFE for a name of 14, and for no free record; but 0x02 first
     ∷ no-group 0xFE groups (0x0E ∷ name 14)
     ∷ no-group 0xFE two (run 2 0x01_53)

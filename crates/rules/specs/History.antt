@@ -170,10 +170,12 @@ existing h d u =
 
 -- a well-formed request from an existing unit to the bind address
 pub record Request (h : List Event) (m : List ℕ) : Type 0 where
+  -- it can be read, and is no response
   pub length : lengthFits m ≡ true
   pub data-length : dataLengthFits m ≡ true
   pub type : typeFits m ≡ true
   pub request : response (fields m) ≡ false
+  -- its sender exists by history
   pub sent : existing h (fields m .source) (fields m .«source_unit») ≡ true
   pub to-binds : destination (fields m) ≡ BindAddress
 
