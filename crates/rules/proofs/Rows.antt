@@ -1,10 +1,7 @@
 -- The rows of document 01, "Rows to try": the cases marked P and the sample of `links`, from tables of full size. Then all rows in one theorem: these,
 -- and those of `RowsOfDelivery`, `RowsOfRefusals`, `RowsOfTables`, `RowsOfCommands` and `RowsOfCalls`, which speak of the paper's other sentences.
 use Rattle.words.specs.Basics.{refl, List, [], _∷_, _++_, ℕ}
-use Rattle.rules.specs.Types.{Outcome, WrongLength, WrongType, ResponseToMany, Done, Forwarded}
 use Rattle.rules.specs.Frame.{Lent}
-use Rattle.rules.specs.Message.{reading}
-use Rattle.rules.specs.Calls.{Answer, answer}
 use Rattle.rules.proofs.Whole.{whole}
 use Rattle.rules.proofs.RowsOfDelivery as delivery
 use Rattle.rules.proofs.RowsOfRefusals as refusals
@@ -12,7 +9,7 @@ use Rattle.rules.proofs.RowsOfTables as unsound
 use Rattle.rules.proofs.RowsOfCommands as commands
 use Rattle.rules.proofs.RowsOfCalls as calls
 use Rattle.rules.proofs.Samples.{Row, row, AsTold, run, lending, filled, named, threeMembers, holding, three-one, four-one, to-group-one, curtains}
-use Rattle.rules.proofs.Samples.{bindManagement, letter, request, Sent, answerTo, reply}
+use Rattle.rules.proofs.Samples.{bindManagement, letter, request, Sent, Told, told, answerTo, reply}
 
 -- devices 3 (rights 1, highest 2), 4 (0, 2), 5 (0, 1); group 1 named "S"; members 5:01, 4:02, 3:01 in that order; these binds
 abbrev start : List ℕ → Lent
@@ -23,7 +20,7 @@ start bs =
 abbrev list : List ℕ
 list = lending 579 []
 
-abbrev starting : List ℕ → List ℕ → Answer → Row Sent Answer
+abbrev starting : List ℕ → List ℕ → Told → Row Sent Told
 starting bs m a = row (record { tables = start bs; message = m; reply = reply; list = list }) a
 
 -- a message to D'0:U'0 in free binds, and its one-octet reply
@@ -31,15 +28,15 @@ starting bs m a = row (record { tables = start bs; message = m; reply = reply; l
 abbrev adding : List ℕ → List ℕ → List ℕ
 adding from p = letter from (run 3 0x00_00_00) 0x01 bindManagement 0x01 p
 
-abbrev coded : List ℕ → List ℕ → ℕ → Answer
-coded bs to code = answer (Done 16) (start bs) (lending 500 (run 3 0x00_00_00 ++ to ++ run 9 0x00_00_07_03_80_02_01_00_01 ++ code ∷ [])) list
+abbrev coded : List ℕ → List ℕ → ℕ → Told
+coded bs to code = told 0 16 (start bs) (lending 500 (run 3 0x00_00_00 ++ to ++ run 9 0x00_00_07_03_80_02_01_00_01 ++ code ∷ [])) list
 
 -- Add Bind from 3:01: the binds before, its payload, the binds after, its code
-abbrev adds : List ℕ → List ℕ → List ℕ → ℕ → Row Sent Answer
+abbrev adds : List ℕ → List ℕ → List ℕ → ℕ → Row Sent Told
 adds before p after code = starting before (adding three-one p) (coded after three-one code)
 
-abbrev refuses : List ℕ → Outcome → Row Sent Answer
-refuses m o = starting [] m (answer o (start []) reply list)
+abbrev refuses : List ℕ → ℕ → Row Sent Told
+refuses m outcome = starting [] m (told outcome 0 (start []) reply list)
 
 abbrev bind1 : List ℕ
 bind1 = run 8 0x00_03_01_82_00_00_04_02
@@ -50,7 +47,7 @@ bind2 = run 8 0x00_03_01_82_00_80_01_00
 abbrev bind8 : List ℕ
 bind8 = run 8 0x00_03_01_82_00_00_05_01
 
-abbrev paper : List (Row Sent Answer)
+abbrev paper : List (Row Sent Told)
 paper =
     -- P1, P2
     adds [] bind1 bind1 0x00
@@ -66,15 +63,15 @@ paper =
     ∷ adds [] bind8 bind8 0x00
     ∷ adds [] (run 8 0x00_03_01_82_00_00_03_01) [] 0x02
     -- P10 fourteen octets, P11 type 0x11, P12 type 0x03 to G'0001
-    ∷ refuses (run 14 0x00_03_01_00_00_00_00_00_07_01_80_02_01_00) WrongLength
-    ∷ refuses (letter three-one (run 3 0x00_00_00) 0x11 bindManagement 0x01 bind1) WrongType
-    ∷ refuses (letter three-one to-group-one 0x03 bindManagement 0x01 bind1) ResponseToMany
+    ∷ refuses (run 14 0x00_03_01_00_00_00_00_00_07_01_80_02_01_00) 10
+    ∷ refuses (letter three-one (run 3 0x00_00_00) 0x11 bindManagement 0x01 bind1) 12
+    ∷ refuses (letter three-one to-group-one 0x03 bindManagement 0x01 bind1) 15
     -- the sample of `links`: 4:02 once, though by bind and by group, and 3:01, the sender, not at all
-    ∷ starting (bind1 ++ bind2) (request three-one curtains) (answer (Forwarded 2) (start (bind1 ++ bind2)) reply (lending 579 (run 6 0x00_04_02_00_05_01)))
+    ∷ starting (bind1 ++ bind2) (request three-one curtains) (told 1 2 (start (bind1 ++ bind2)) reply (lending 579 (run 6 0x00_04_02_00_05_01)))
     ∷ []
 
 -- Every row, by what it is about: where one fails, the check names its table
-pub record Told : Type 0 where
+pub record AllRows : Type 0 where
   pub paper : AsTold answerTo paper
   pub matching : AsTold answerTo delivery.matching
   pub binding : AsTold answerTo delivery.binding
@@ -101,12 +98,12 @@ pub record Told : Type 0 where
   pub get-group-info : AsTold answerTo commands.get-group-info
   pub payload-lengths : AsTold answerTo commands.payload-lengths
   pub rights : AsTold answerTo commands.rights
-  pub reads : AsTold reading calls.reads
+  pub reads : AsTold calls.readOf calls.reads
   pub copies : AsTold calls.copyOf calls.copies
   pub admissions : AsTold calls.admitOf calls.admissions
   pub releases : AsTold calls.releaseOf calls.releases
 
-pub as-told : Told
+pub as-told : AllRows
 unfolding whole
 as-told = record {
   paper = refl;

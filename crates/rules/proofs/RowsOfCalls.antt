@@ -1,12 +1,12 @@
 -- Rows: reading, copying, and the two calls of the host (document 01, Outcomes), each with every outcome of its own.
-use Rattle.words.specs.Basics.{List, [], _∷_, _++_, map, ℕ, length, replicate}
-use Rattle.words.specs.Names.{noFields, device}
-use Rattle.rules.specs.Types.{Fields, Outcome, Done, WrongLength, WrongDataLength, WrongType, Unsound, NoCopy, OutOfRange, AlreadyAdmitted}
-use Rattle.rules.specs.Types.{NoFreeRecord, NotAdmitted, Reading}
+use Rattle.words.specs.Basics.{List, [], _∷_, _++_, map, ℕ, replicate}
+use Rattle.words.specs.Names.{device}
+use Rattle.words.specs.Outcomes.{numberOf, valueOf}
+use Rattle.rules.specs.Types.{Fields}
 use Rattle.rules.specs.Frame.{Lent}
-use Rattle.rules.specs.Message.{readingOf, reading}
-use Rattle.rules.specs.Copy.{CopyAnswer, copyAnswer, copy}
-use Rattle.rules.specs.Host.{HostAnswer, hostAnswer, admit, release}
+use Rattle.rules.specs.Message.{reading}
+use Rattle.rules.specs.Copy.{CopyAnswer, copy}
+use Rattle.rules.specs.Host.{HostAnswer, admit, release}
 use Rattle.rules.proofs.Samples.{Row, row, run, lending, filled, groups, members, holding, house}
 
 -- a message with every reserved bit set, transport 0xAA 0xBB, and three octets of payload
@@ -14,15 +14,15 @@ abbrev full : List ℕ
 full = run 18 0x80_03_01_80_01_FF_AA_BB_07_02_82_00_05_FE_03_41_42_43
 
 -- what cannot be read, and why: in the paper's order three faults, two and one; then one each
-abbrev unreadable : List (Row (List ℕ) Outcome)
+abbrev unreadable : List (Row (List ℕ) ℕ)
 unreadable =
-    row (run 14 0x00_03_01_80_01_FF_00_00_07_11_82_00_05_01) WrongLength
-    ∷ row (run 15 0x00_03_01_80_01_FF_00_00_07_11_82_00_05_01_00) WrongDataLength
-    ∷ row (run 15 0x00_03_01_80_01_FF_00_00_07_11_82_00_05_00_00) WrongType
-    ∷ row [] WrongLength
-    ∷ row (run 15 0x00_03_01_80_01_FF_00_00_07_01_82_00_05_01_E6 ++ replicate 486 0x00) WrongLength
-    ∷ row (run 15 0x00_03_01_80_01_FF_00_00_07_01_82_00_05_00_01) WrongDataLength
-    ∷ row (run 15 0x00_03_01_80_01_FF_00_00_07_00_82_00_05_00_00) WrongType
+    row (run 14 0x00_03_01_80_01_FF_00_00_07_11_82_00_05_01) 10
+    ∷ row (run 15 0x00_03_01_80_01_FF_00_00_07_11_82_00_05_01_00) 11
+    ∷ row (run 15 0x00_03_01_80_01_FF_00_00_07_11_82_00_05_00_00) 12
+    ∷ row [] 10
+    ∷ row (run 15 0x00_03_01_80_01_FF_00_00_07_01_82_00_05_01_E6 ++ replicate 486 0x00) 10
+    ∷ row (run 15 0x00_03_01_80_01_FF_00_00_07_01_82_00_05_00_01) 11
+    ∷ row (run 15 0x00_03_01_80_01_FF_00_00_07_00_82_00_05_00_00) 12
     ∷ []
 
 -- the fields of `full`
@@ -43,9 +43,38 @@ full-fields =
       payload = 16;
     }
 
+-- every field 0
+abbrev no-fields : Fields
+no-fields =
+    record {
+      source = device 0;
+      «source_unit» = 0;
+      «address_type» = 0;
+      destination = 0;
+      «destination_unit» = 0;
+      «app_ref» = 0;
+      «message_type» = 0;
+      «interface_type» = 0;
+      uid = 0;
+      member = 0;
+      «data_length» = 0;
+      payload = 0;
+    }
+
+-- the outcome's number and the fields
+pub record Read : Type 0 where
+  pub number : ℕ
+  pub fields : Fields
+
+abbrev read : ℕ → Fields → Read
+read n f = record { number = n; fields = f }
+
+abbrev pub readOf : List ℕ → Read
+readOf m = read (numberOf (reading m .outcome)) (reading m .fields)
+
 -- "Reading alone: 10, 11, 12 with every field 0, else 0 with the fields and where the payload begins (octet 16)."
-abbrev pub reads : List (Row (List ℕ) Reading)
-reads = row full (readingOf (Done 0) full-fields) ∷ map (λ x. row (x .asked) (readingOf (x .due) noFields)) unreadable
+abbrev pub reads : List (Row (List ℕ) Read)
+reads = row full (read 0 full-fields) ∷ map (λ x. row (x .asked) (read (x .due) no-fields)) unreadable
 
 -- a copy into this room for a unit of a device
 pub record Copying : Type 0 where
@@ -57,27 +86,50 @@ pub record Copying : Type 0 where
 abbrev copying : List ℕ → ℕ → ℕ → ℕ → Copying
 copying m room d u = record { message = m; room = lending room []; to = d; unit = u }
 
-abbrev pub copyOf : Copying → CopyAnswer
-copyOf c = copy (c .message) (c .room) (device (c .to)) (c .unit)
+-- the outcome's number, the copy's length, and the room
+pub record Copied : Type 0 where
+  pub number : ℕ
+  pub length : ℕ
+  pub room : List ℕ
+
+abbrev copied : ℕ → ℕ → List ℕ → Copied
+copied n k room = record { number = n; length = k; room = room }
+
+abbrev pub copyOf : Copying → Copied
+copyOf c =
+    let a : CopyAnswer = copy (c .message) (c .room) (device (c .to)) (c .unit) in
+    copied (numberOf (a .outcome)) (valueOf (a .outcome)) (a .room)
 
 -- "room shorter than the message, device above 0x7FFE or unit 0xFF"
-abbrev uncopied : ℕ → ℕ → ℕ → Row Copying CopyAnswer
-uncopied room d u = row (copying full room d u) (copyAnswer NoCopy (lending room []))
+abbrev uncopied : ℕ → ℕ → ℕ → Row Copying Copied
+uncopied room d u = row (copying full room d u) (copied 19 0 (lending room []))
 
 -- "A copy equals the message but for octets 4 to 6: type 0, device, unit.": reserved bits and transport stay; of the room what is behind the copy
-abbrev pub copies : List (Row Copying CopyAnswer)
+abbrev pub copies : List (Row Copying Copied)
 copies =
-    row (copying full 20 5 1) (copyAnswer (Done 18) (lending 20 (run 18 0x80_03_01_00_05_01_AA_BB_07_02_82_00_05_FE_03_41_42_43)))
-    ∷ row (copying full 18 0x7FFE 0xFE) (copyAnswer (Done 18) (run 18 0x80_03_01_7F_FE_FE_AA_BB_07_02_82_00_05_FE_03_41_42_43))
-    ∷ row (copying full 18 0 0) (copyAnswer (Done 18) (run 18 0x80_03_01_00_00_00_AA_BB_07_02_82_00_05_FE_03_41_42_43))
+    row (copying full 20 5 1) (copied 0 18 (lending 20 (run 18 0x80_03_01_00_05_01_AA_BB_07_02_82_00_05_FE_03_41_42_43)))
+    ∷ row (copying full 18 0x7FFE 0xFE) (copied 0 18 (run 18 0x80_03_01_7F_FE_FE_AA_BB_07_02_82_00_05_FE_03_41_42_43))
+    ∷ row (copying full 18 0 0) (copied 0 18 (run 18 0x80_03_01_00_00_00_AA_BB_07_02_82_00_05_FE_03_41_42_43))
     ∷ uncopied 17 5 1
     ∷ uncopied 20 0x7FFF 1
     ∷ uncopied 20 0x8005 1
     ∷ uncopied 20 5 0xFF
     -- what cannot be read is told before what cannot be copied
-    ∷ map (λ x. row (copying (x .asked) 0 0x7FFF 0xFF) (copyAnswer (x .due) [])) unreadable
+    ∷ map (λ x. row (copying (x .asked) 0 0x7FFF 0xFF) (copied (x .due) 0 [])) unreadable
 
 -- The host's calls
+
+-- the outcome's number, the count, which is 0, and the tables
+pub record Hosted : Type 0 where
+  pub number : ℕ
+  pub count : ℕ
+  pub tables : Lent
+
+abbrev hosted : ℕ → Lent → Hosted
+hosted n L = record { number = n; count = 0; tables = L }
+
+abbrev answered : HostAnswer → Hosted
+answered a = record { number = numberOf (a .outcome); count = valueOf (a .outcome); tables = a .tables }
 
 -- admit these numbers to these tables
 pub record Admitting : Type 0 where
@@ -89,8 +141,8 @@ pub record Admitting : Type 0 where
 abbrev admitting : Lent → ℕ → ℕ → ℕ → Admitting
 admitting L d r h = record { tables = L; address = d; rights = r; highest = h }
 
-abbrev pub admitOf : Admitting → HostAnswer
-admitOf x = admit (x .tables) (device (x .address)) (x .rights) (x .highest)
+abbrev pub admitOf : Admitting → Hosted
+admitOf x = answered (admit (x .tables) (device (x .address)) (x .rights) (x .highest))
 
 abbrev plain : Lent
 plain = house []
@@ -100,11 +152,11 @@ abbrev four-devices : List ℕ
 four-devices = run 16 0x00_01_00_01_00_03_01_02_00_04_00_02_00_05_00_01
 
 -- .. and this one
-abbrev admits : ℕ → ℕ → ℕ → ℕ → Row Admitting HostAnswer
-admits d r h stored = row (admitting plain d r h) (hostAnswer (Done 0) (holding (four-devices ++ run 4 stored) (filled 48 []) groups members))
+abbrev admits : ℕ → ℕ → ℕ → ℕ → Row Admitting Hosted
+admits d r h stored = row (admitting plain d r h) (hosted 0 (holding (four-devices ++ run 4 stored) (filled 48 []) groups members))
 
-abbrev not-admitted : Lent → ℕ → ℕ → ℕ → Outcome → Row Admitting HostAnswer
-not-admitted L d r h o = row (admitting L d r h) (hostAnswer o L)
+abbrev not-admitted : Lent → ℕ → ℕ → ℕ → ℕ → Row Admitting Hosted
+not-admitted L d r h o = row (admitting L d r h) (hosted o L)
 
 -- no free record; one that is cut off behind it, so that the tables are not sound
 
@@ -114,23 +166,23 @@ full-of-devices = holding four-devices [] groups members
 abbrev unsound : Lent
 unsound = holding (four-devices ++ 0xFF ∷ []) [] groups members
 
-abbrev pub admissions : List (Row Admitting HostAnswer)
+abbrev pub admissions : List (Row Admitting Hosted)
 admissions =
     admits 6 0 2 0x00_06_00_02
     ∷ admits 2 1 0 0x00_02_01_00
     ∷ admits 0x7FFE 0 254 0x7F_FE_00_FE
     -- 20: D'0000, D'7FFF, the top bit; rights 2; highest unit 255
-    ∷ not-admitted plain 0 1 2 OutOfRange
-    ∷ not-admitted plain 0x7FFF 1 2 OutOfRange
-    ∷ not-admitted plain 0x8006 1 2 OutOfRange
-    ∷ not-admitted plain 6 2 2 OutOfRange
-    ∷ not-admitted plain 6 1 255 OutOfRange
+    ∷ not-admitted plain 0 1 2 20
+    ∷ not-admitted plain 0x7FFF 1 2 20
+    ∷ not-admitted plain 0x8006 1 2 20
+    ∷ not-admitted plain 6 2 2 20
+    ∷ not-admitted plain 6 1 255 20
     -- in the paper's order four faults, and then one less each: 16, 20, 21, 22
-    ∷ not-admitted unsound 3 2 1 Unsound
-    ∷ not-admitted full-of-devices 3 2 1 OutOfRange
-    ∷ not-admitted full-of-devices 3 1 1 AlreadyAdmitted
-    ∷ not-admitted full-of-devices 6 1 1 NoFreeRecord
-    ∷ not-admitted plain 3 1 1 AlreadyAdmitted
+    ∷ not-admitted unsound 3 2 1 16
+    ∷ not-admitted full-of-devices 3 2 1 20
+    ∷ not-admitted full-of-devices 3 1 1 21
+    ∷ not-admitted full-of-devices 6 1 1 22
+    ∷ not-admitted plain 3 1 1 21
     ∷ []
 
 -- release this device from these tables
@@ -141,11 +193,11 @@ pub record Releasing : Type 0 where
 abbrev releasing : Lent → ℕ → Releasing
 releasing L d = record { tables = L; address = d }
 
-abbrev pub releaseOf : Releasing → HostAnswer
-releaseOf x = release (x .tables) (device (x .address))
+abbrev pub releaseOf : Releasing → Hosted
+releaseOf x = answered (release (x .tables) (device (x .address)))
 
-abbrev not-released : Lent → ℕ → Outcome → Row Releasing HostAnswer
-not-released L d o = row (releasing L d) (hostAnswer o L)
+abbrev not-released : Lent → ℕ → ℕ → Row Releasing Hosted
+not-released L d o = row (releasing L d) (hosted o L)
 
 -- binds from and to device 4, from device 3 to device 5, to G'0001 and to D'0001
 
@@ -165,20 +217,20 @@ abbrev bound : Lent
 bound = house (from-four ++ to-four ++ others ++ to-one)
 
 -- "Release takes the device, its members and all binds that name it as source or individual destination."
-abbrev pub releases : List (Row Releasing HostAnswer)
+abbrev pub releases : List (Row Releasing Hosted)
 releases =
-    row (releasing bound 4) (hostAnswer (Done 0) (holding
+    row (releasing bound 4) (hosted 0 (holding
     (run 8 0x00_01_00_01_00_03_01_02 ++ filled 4 [] ++ run 4 0x00_05_00_01 ++ filled 4 [])
     (filled 16 [] ++ others ++ to-one ++ filled 8 []) groups
     (run 5 0x00_01_00_05_01 ++ filled 5 [] ++ run 5 0x00_01_00_03_01 ++ filled 5 [])))
     -- D'0001 goes, and G'0001, its members and the bind to it stay
-    ∷ row (releasing bound 1) (hostAnswer (Done 0) (holding (filled 4 [] ++ run 12 0x00_03_01_02_00_04_00_02_00_05_00_01 ++ filled 4 [])
+    ∷ row (releasing bound 1) (hosted 0 (holding (filled 4 [] ++ run 12 0x00_03_01_02_00_04_00_02_00_05_00_01 ++ filled 4 [])
     (from-four ++ to-four ++ others ++ filled 16 []) groups members))
     -- 23: no such device, the concentrator, D'FFFF, which has the octets of a free record
-    ∷ not-released bound 6 NotAdmitted
-    ∷ not-released bound 0 NotAdmitted
-    ∷ not-released bound 0xFFFF NotAdmitted
+    ∷ not-released bound 6 23
+    ∷ not-released bound 0 23
+    ∷ not-released bound 0xFFFF 23
     -- 16 before 23
-    ∷ not-released unsound 6 Unsound
-    ∷ not-released unsound 4 Unsound
+    ∷ not-released unsound 6 16
+    ∷ not-released unsound 4 16
     ∷ []

@@ -1,16 +1,13 @@
 -- Rows: when a message is refused (document 01, Outcomes). Of each the tables, the reply and the list keep every octet.
 use Rattle.words.specs.Basics.{List, [], _∷_, _++_, map, ℕ, _+_, replicate}
-use Rattle.words.specs.declared.Outcome.the-variants.{NotServed}
-use Rattle.rules.specs.Types.{Outcome, Nobody, WrongLength, WrongDataLength, WrongType, NoSource, NoDestination, ResponseToMany, Unsound, NoRoom}
 use Rattle.rules.specs.Frame.{Lent}
-use Rattle.rules.specs.Calls.{Answer, answer}
-use Rattle.rules.proofs.Samples.{Row, row, run, lending, devices, groups, members, threeMembers, named, filled, holding, house, three-one, concentrator}
-use Rattle.rules.proofs.Samples.{to-binds, to-group-one, curtains, bindManagement, groupManagement, letter, request, Sent, sent, reply, list, unchanged}
+use Rattle.rules.proofs.Samples.{Row, row, run, lending, filled, devices, groups, members, holding, house, three-one, concentrator, to-binds}
+use Rattle.rules.proofs.Samples.{to-group-one, curtains, bindManagement, groupManagement, letter, Sent, Told, told, sent, reply, list, unchanged}
 
 abbrev plain : Lent
 plain = house []
 
-abbrev refused : List ℕ → Outcome → Row Sent Answer
+abbrev refused : List ℕ → ℕ → Row Sent Told
 refused m o = row (sent plain m) (unchanged plain o)
 
 -- from this unit, to this destination, as this type
@@ -25,48 +22,48 @@ abbrev typed : List ℕ → ℕ → List ℕ
 typed to type = letter three-one to type curtains 0x01 []
 
 -- 10, 11, 12
-abbrev pub unreadable : List (Row Sent Answer)
+abbrev pub unreadable : List (Row Sent Told)
 unreadable =
     -- none, 14 and 501 octets
-    refused [] WrongLength
-    ∷ refused (run 14 0x00_03_01_7F_FF_FF_00_00_07_01_82_00_01_00) WrongLength
-    ∷ refused (letter three-one to-binds 0x01 curtains 0x01 (replicate 486 0x00)) WrongLength
+    refused [] 10
+    ∷ refused (run 14 0x00_03_01_7F_FF_FF_00_00_07_01_82_00_01_00) 10
+    ∷ refused (letter three-one to-binds 0x01 curtains 0x01 (replicate 486 0x00)) 10
     -- a data length one too low, one too high
-    ∷ refused (run 16 0x00_03_01_7F_FF_FF_00_00_07_01_82_00_01_00_00_00) WrongDataLength
-    ∷ refused (run 16 0x00_03_01_7F_FF_FF_00_00_07_01_82_00_01_00_02_00) WrongDataLength
+    ∷ refused (run 16 0x00_03_01_7F_FF_FF_00_00_07_01_82_00_01_00_00_00) 11
+    ∷ refused (run 16 0x00_03_01_7F_FF_FF_00_00_07_01_82_00_01_00_02_00) 11
     -- its ninth bit counts
-    ∷ refused (run 15 0x00_03_01_7F_FF_FF_00_00_07_01_82_00_01_01_00) WrongDataLength
-    ∷ refused (typed to-binds 0x00) WrongType
-    ∷ refused (typed to-binds 0x11) WrongType
+    ∷ refused (run 15 0x00_03_01_7F_FF_FF_00_00_07_01_82_00_01_01_00) 11
+    ∷ refused (typed to-binds 0x00) 12
+    ∷ refused (typed to-binds 0x11) 12
     ∷ []
 
 -- 13: no such device, no such unit of a device, of the concentrator
-abbrev pub sources : List (Row Sent Answer)
-sources = map (λ from. refused (from-it from) NoSource) (run 3 0x00_06_00 ∷ run 3 0x00_03_03 ∷ run 3 0x00_00_01 ∷ run 3 0x7F_FF_FF ∷ [])
+abbrev pub sources : List (Row Sent Told)
+sources = map (λ from. refused (from-it from) 13) (run 3 0x00_06_00 ∷ run 3 0x00_03_03 ∷ run 3 0x00_00_01 ∷ run 3 0x7F_FF_FF ∷ [])
 
 -- 14: no such device, unit, unit of the concentrator; D'7FFF with another unit; no such group, G'0000, and G'7FFF with unit 0xFF
-abbrev pub destinations : List (Row Sent Answer)
+abbrev pub destinations : List (Row Sent Told)
 destinations =
-    map (λ to. refused (to-it to) NoDestination)
+    map (λ to. refused (to-it to) 14)
     (run 3 0x00_06_00 ∷ run 3 0x00_05_02 ∷ run 3 0x00_00_01 ∷ run 3 0x7F_FF_00 ∷ run 3 0x80_03_FF ∷ run 3 0x80_00_FF ∷ run 3 0xFF_FF_FF ∷ [])
 
 -- 15: each response type to the bind address; to a group, and to one that does not exist
-abbrev pub responses-to-many : List (Row Sent Answer)
+abbrev pub responses-to-many : List (Row Sent Told)
 responses-to-many =
-    map (λ t. refused (typed to-binds t) ResponseToMany) (0x03 ∷ 0x05 ∷ 0x08 ∷ 0x0A ∷ 0x0D ∷ 0x10 ∷ [])
-    ++ refused (typed to-group-one 0x03) ResponseToMany
-    ∷ refused (typed (run 3 0x80_03_FF) 0x0D) ResponseToMany
+    map (λ t. refused (typed to-binds t) 15) (0x03 ∷ 0x05 ∷ 0x08 ∷ 0x0A ∷ 0x0D ∷ 0x10 ∷ [])
+    ++ refused (typed to-group-one 0x03) 15
+    ∷ refused (typed (run 3 0x80_03_FF) 0x0D) 15
     ∷ []
 
 -- a message to the concentrator, as this type, at this interface, with a member and a payload
-abbrev asks : ℕ → List ℕ → ℕ → List ℕ → Row Sent Answer
-asks type interface member p = refused (letter three-one concentrator type interface member p) NotServed
+abbrev asks : ℕ → List ℕ → ℕ → List ℕ → Row Sent Told
+asks type interface member p = refused (letter three-one concentrator type interface member p) 18
 
 abbrev bind : List ℕ
 bind = run 8 0x00_03_01_82_00_00_04_02
 
 -- 18
-abbrev pub not-served : List (Row Sent Answer)
+abbrev pub not-served : List (Row Sent Told)
 not-served =
     -- Add Bind and Create Group to a client interface, as a response, as another request
     asks 0x01 (run 2 0x00_02) 0x01 bind
@@ -84,23 +81,23 @@ not-served =
     ∷ []
 
 -- this reply and this list are lent
-abbrev lent : Lent → List ℕ → List ℕ → List ℕ → Outcome → Row Sent Answer
-lent L m r l o = row (record { tables = L; message = m; reply = r; list = l }) (answer o L r l)
+abbrev lent : Lent → List ℕ → List ℕ → List ℕ → ℕ → Row Sent Told
+lent L m r l o = row (record { tables = L; message = m; reply = r; list = l }) (told o 0 L r l)
 
 abbrev no-records : Lent
 no-records = holding [] [] [] []
 
 -- 17: "reply under 500 octets, or recipient list under 3 × max(1, bind records + member records)"; six records and four, free ones counted
-abbrev pub room : List (Row Sent Answer)
+abbrev pub room : List (Row Sent Told)
 room =
-    lent plain (from-it three-one) (lending 499 []) list NoRoom
-    ∷ lent plain (from-it three-one) reply (lending 29 []) NoRoom
-    ∷ lent plain (from-it three-one) reply (lending 30 []) Nobody
-    ∷ lent no-records (from-it concentrator) reply (lending 2 []) NoRoom
-    ∷ lent no-records (from-it concentrator) reply (lending 3 []) Nobody
+    lent plain (from-it three-one) (lending 499 []) list 17
+    ∷ lent plain (from-it three-one) reply (lending 29 []) 17
+    ∷ lent plain (from-it three-one) reply (lending 30 []) 2
+    ∷ lent no-records (from-it concentrator) reply (lending 2 []) 17
+    ∷ lent no-records (from-it concentrator) reply (lending 3 []) 2
     -- lengths divided down: 7 octets of binds and 4 of members are no record
-    ∷ lent (holding [] (filled 7 []) [] (filled 4 [])) (from-it concentrator) reply (lending 2 []) NoRoom
-    ∷ lent (holding [] (filled 7 []) [] (filled 4 [])) (from-it concentrator) reply (lending 3 []) Unsound
+    ∷ lent (holding [] (filled 7 []) [] (filled 4 [])) (from-it concentrator) reply (lending 2 []) 17
+    ∷ lent (holding [] (filled 7 []) [] (filled 4 [])) (from-it concentrator) reply (lending 3 []) 16
     ∷ []
 
 -- "Order for a message: 17, 16, 10, 11, 12, 13, 15, then 18 for D'0:U'0 or 14 for the rest.": from row to row one fault less, so that each has its own
@@ -113,17 +110,17 @@ cut-off = holding (devices ++ 0xFF ∷ []) (filled 48 []) groups members
 abbrev all-wrong : List ℕ
 all-wrong = run 14 0x00_06_00_80_03_FF_00_00_07_11_82_00_01_01
 
-abbrev pub order : List (Row Sent Answer)
+abbrev pub order : List (Row Sent Told)
 order =
-    lent cut-off all-wrong (lending 499 []) list NoRoom
-    ∷ lent cut-off all-wrong reply list Unsound
-    ∷ refused all-wrong WrongLength
-    ∷ refused (all-wrong ++ 0x00 ∷ []) WrongDataLength
-    ∷ refused (run 15 0x00_06_00_80_03_FF_00_00_07_11_82_00_01_00_00) WrongType
-    ∷ refused (run 15 0x00_06_00_80_03_FF_00_00_07_03_82_00_01_00_00) NoSource
-    ∷ refused (run 15 0x00_03_01_80_03_FF_00_00_07_03_82_00_01_00_00) ResponseToMany
-    ∷ refused (run 15 0x00_03_01_80_03_FF_00_00_07_01_82_00_01_00_00) NoDestination
+    lent cut-off all-wrong (lending 499 []) list 17
+    ∷ lent cut-off all-wrong reply list 16
+    ∷ refused all-wrong 10
+    ∷ refused (all-wrong ++ 0x00 ∷ []) 11
+    ∷ refused (run 15 0x00_06_00_80_03_FF_00_00_07_11_82_00_01_00_00) 12
+    ∷ refused (run 15 0x00_06_00_80_03_FF_00_00_07_03_82_00_01_00_00) 13
+    ∷ refused (run 15 0x00_03_01_80_03_FF_00_00_07_03_82_00_01_00_00) 15
+    ∷ refused (run 15 0x00_03_01_80_03_FF_00_00_07_01_82_00_01_00_00) 14
     -- to D'0:U'0, at an interface that is not served
-    ∷ refused (run 15 0x00_06_00_00_00_00_00_00_07_03_82_00_01_00_00) NoSource
-    ∷ refused (run 15 0x00_03_01_00_00_00_00_00_07_03_82_00_01_00_00) NotServed
+    ∷ refused (run 15 0x00_06_00_00_00_00_00_00_07_03_82_00_01_00_00) 13
+    ∷ refused (run 15 0x00_03_01_00_00_00_00_00_07_03_82_00_01_00_00) 18
     ∷ []
