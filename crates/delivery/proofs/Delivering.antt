@@ -12,7 +12,7 @@ use Rattle.rules.specs.Calls.{roomy}
 use Rattle.rules.specs.Sound.{wholeRecords, soundTable, sound}
 use Rattle.rules.specs.Recipients.{recipients}
 use Rattle.rules.proofs.Lists.{split}
-use Rattle.rules.proofs.Order.{length-ordered}
+use Rattle.rules.proofs.Order.{length-ordered, length-unitOctets}
 use Rattle.rules.proofs.Kept.{sound-at}
 use Rattle.units.specs.Listing.{units, addedAll, Listing, Taken, Enough}
 use Rattle.collecting.specs.Leaving.{leaving, membersBut, boundBut}
@@ -20,7 +20,7 @@ use Rattle.collecting.specs.declared.Except.the-variants.{Sender}
 use Rattle.delivery.specs.Delivering.{Deliverable}
 use Rattle.units.proofs.Units.{has-none}
 use Rattle.units.proofs.Taking.{added-new, once-addedAll, ordered-addedAll}
-use Rattle.units.proofs.Listing.{length-unitOctets, over-over, units-written}
+use Rattle.units.proofs.Listing.{over-over, units-written}
 use Rattle.delivery.proofs.Enough.{Within, count-within, enough-within}
 
 -- Collected from none on

@@ -1,7 +1,6 @@
 -- Get Group Info's reply, piece by piece: what stands before the members, and the members behind it.
 use borrow.Rule.Slice.PartMut.{putMid}
-use Rattle.words.specs.Basics.{_≡_, refl, sym, _∙_, List, [], _∷_, _++_, ℕ, _+_, _-_, _*_, _≤_, arith, length, take, drop, length-drop, length-append, sets}
-use Rattle.words.specs.Basics.{length-take-le}
+use Rattle.words.specs.Basics.{_≡_, refl, sym, List, [], _∷_, _++_, ℕ, _+_, _-_, _*_, _≤_, arith, length, take, drop, sets}
 use Rattle.words.specs.Names.{ok, headerLength, longest}
 use Rattle.rules.specs.Types.{GroupAddress, Groups, Members}
 use Rattle.rules.specs.Octets.{octets, over}
@@ -11,22 +10,17 @@ use Rattle.rules.specs.Layout.{size, longestName, nameLength, groupName}
 use Rattle.rules.specs.Frame.{table}
 use Rattle.rules.specs.Recipients.{membersOf}
 use Rattle.rules.specs.Commands.{infoHead, info}
+use Rattle.rules.proofs.Counts.{name-length}
+use Rattle.rules.proofs.Replied.{length-infoHead, length-info}
 use Rattle.octets.proofs.Runs.{sets-behind, sets-over}
 use Rattle.messages.proofs.Replies.{behind}
-use Rattle.units.proofs.Listing.{length-unitOctets}
 use Rattle.collecting.specs.Leaving.{membersBut}
 use Rattle.collecting.specs.declared.Except.the-variants.{Nobody}
 use Rattle.group_info.proofs.Informed.{all-members}
 
--- a group's name, which its record holds whole
-name-length : (r : Rec) → length r ≡ size Groups → nameLength r ≤ longestName → length (groupName r) ≡ nameLength r
-name-length r h l = length-take-le (nameLength r) (drop 3 r) (rw length-drop (omega arith))
-
+-- 0x00, name length, name, number of members
 pub length-head : (r : Rec) (n : ℕ) → length r ≡ size Groups → nameLength r ≤ longestName → length (ok .0 ∷ infoHead r n) ≡ nameLength r + 2 + 2
-unfolding infoHead octets
-length-head r n h l =
-    let e : length (groupName r ++ octets n) ≡ nameLength r + 2 = length-append (groupName r) (octets n) ∙ rw (name-length r h l) in
-    omega (arith, e)
+length-head r n h l = omega (arith, length-infoHead r n, name-length r h l)
 
 -- 0x00 and the name's length, the name, the number of members
 pub head-written : (r out : List ℕ) (n : ℕ) → length r ≡ size Groups → nameLength r ≤ longestName → longest ≤ headerLength + length out
@@ -43,9 +37,7 @@ head-written r out n h l m =
 
 info-length : (r : Rec) (us : List ℕ) → length r ≡ size Groups → nameLength r ≤ longestName
     → length (ok .0 ∷ info r us) ≡ nameLength r + 2 + 2 + 3 * length us
-unfolding info
-info-length r us h l =
-    length-append (ok .0 ∷ infoHead r (length us)) (unitOctets us) ∙ omega (arith, length-head r (length us) h l, length-unitOctets us)
+info-length r us h l = omega (arith, length-info r us, name-length r h l)
 
 pub info-counted : (r : Rec) (g : GroupAddress) (t : List ℕ) {n : ℕ} → length r ≡ size Groups → nameLength r ≤ longestName
     → n ≡ length (ordered (membersBut Nobody g (table Members t)))

@@ -1,5 +1,5 @@
 -- The group that a search found, and what is answered of it.
-use Rattle.words.specs.Basics.{_≡_, sym, ap, _∙_, true, false, List, [], _∷_, ℕ, _+_, _≤_, length, take, drop, leb-true}
+use Rattle.words.specs.Basics.{_≡_, sym, ap, _∙_, true, false, List, [], _∷_, ℕ, _+_, _≤_, length, take, drop}
 use Rattle.words.specs.Names.{ok, invalidArgument}
 use Rattle.rules.specs.Types.{GroupAddress, Groups}
 use Rattle.rules.specs.Lists.{all, firstOf, ask}
@@ -12,7 +12,8 @@ use Rattle.rules.specs.Exists.{groupExists}
 use Rattle.rules.specs.Sound.{groupFits}
 use Rattle.rules.specs.Recipients.{membersOf}
 use Rattle.rules.specs.Commands.{naming, info, groupInfo, onOk}
-use Rattle.rules.proofs.Lists.{split, first-passes}
+use Rattle.rules.proofs.Lists.{first-passes}
+use Rattle.rules.proofs.Counts.{name-fits}
 use Rattle.records.specs.Search.{foundAt}
 use Rattle.records.specs.declared.Found.{Found}
 use Rattle.records.specs.declared.Found.the-variants.{At, Nothing}
@@ -43,11 +44,11 @@ module _ (g : GroupAddress) (t : List ℕ) {w : List ℕ} {r : Found} (e : w ≡
 -- its name fits
 pub named : (g : GroupAddress) (t : List ℕ) {at : ℕ} → GroupAt g t at → all groupFits (used (table Groups t)) ≡ true
     → nameLength (take (size Groups) (drop at t)) ≤ longestName
-unfolding groupFits groupExists
+unfolding groupExists
 named g t {at} f h =
     let p : groupFits (firstOf [] (addressed (g .0)) (used (table Groups t))) ≡ true =
     first-passes [] (addressed (g .0)) groupFits (used (table Groups t)) (f .exists) h in
-    leb-true _ _ (split (split (rw (f .is) at p) .0) .1)
+    name-fits (take (size Groups) (drop at t)) (rw (f .is) at p)
 
 -- the answer, by what was found
 

@@ -9,9 +9,9 @@ use Rattle.rules.specs.Message.{fields, payload, reply}
 use Rattle.rules.specs.Recipients.{recipients}
 use Rattle.rules.specs.Commands.{judge, replyPayload}
 use Rattle.rules.specs.Calls.{Answer, answer, answered, handled, forwarded, follow, message}
+use Rattle.rules.proofs.Order.{length-unitOctets}
 use Rattle.rules.proofs.RoundTrip.{reply-length}
 use Rattle.rules.proofs.Ways.{Acting, Ways, refuses, serves, forwards, ways}
-use Rattle.units.proofs.Listing.{length-unitOctets}
 use Rattle.report.specs.Text.{valueIf, countOf, lengthOf}
 
 pub record Within (o : Outcome) (r l : List ℕ) : Type 0 where

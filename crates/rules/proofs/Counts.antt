@@ -1,23 +1,25 @@
 -- The number of members that Get Group Info gives (document 01, Commands and codes): each member is one unit, so none is lost to the order.
 use lib.Seq.{getD-append-add, ext-getD}
 use Rattle.words.specs.Basics.{_≡_, refl, sym, _∙_, Bool, true, false, cond, not, _&&_, _||_, List, [], _∷_, _++_, map, append-assoc, ℕ, zero, suc, _+_, _*_}
-use Rattle.words.specs.Basics.{_/_, _%_, _<_, _≤_, arith, eqb, length, take, getD, length-drop, length-map, length-take, not-true, eq-eqb, eqb-true, leb-true}
+use Rattle.words.specs.Basics.{_/_, _%_, _<_, _≤_, arith, eqb, length, take, drop, getD, length-drop, length-map, length-take-le, not-true, eq-eqb, eqb-true}
+use Rattle.words.specs.Basics.{leb-true}
 use Rattle.words.specs.Names.{ok}
 use Rattle.rules.specs.Types.{GroupAddress, Groups, Members}
 use Rattle.rules.specs.Lists.{_&_, count, any, all, keep, has, firstOf}
 use Rattle.rules.specs.Octets.{octet, word, octets, starts}
 use Rattle.rules.specs.Units.{unitNumber, unitAt, unitOctets, ordered, once}
 use Rattle.rules.specs.Tables.{Rec, free?, used, matches, addressed}
-use Rattle.rules.specs.Layout.{longestName, nameLength, groupName, memberGroup, memberNumber, inGroup}
-use Rattle.rules.specs.Frame.{Lent, tables}
+use Rattle.rules.specs.Layout.{size, most, full, longestName, nameLength, groupName, memberGroup, memberNumber, inGroup}
+use Rattle.rules.specs.Frame.{Lent, table, tables}
 use Rattle.rules.specs.Exists.{groupExists}
 use Rattle.rules.specs.Sound.{groupFits, fits, distinct, soundTable}
 use Rattle.rules.specs.Recipients.{membersOf}
 use Rattle.rules.specs.Commands.{infoHead, info, groupInfo}
-use Rattle.rules.proofs.Lists.{and-parts, split, any-map, any-keep, none-weaken, count-alike, length-kept, first-passes}
+use Rattle.rules.proofs.Lists.{and-parts, split, any-map, any-keep, none-weaken, count-alike, length-kept, few-kept, first-passes}
+use Rattle.rules.proofs.Records.{length-records}
 use Rattle.rules.proofs.Words.{shaped, octet-small, addressed-word, word-of}
 use Rattle.rules.proofs.Changes.{all-used, shaped-records}
-use Rattle.rules.proofs.Order.{length-ordered}
+use Rattle.rules.proofs.Order.{length-ordered, few-ordered}
 use Rattle.rules.proofs.Kept.{sound-at, Sane}
 
 -- Two members of a group are two units
@@ -87,6 +89,21 @@ module _ (g : GroupAddress) where
       ∙ count-alike (shaped 5) (inGroup g) (λ x. eqb (memberGroup x .0) (g .0)) (λ x s. addressed-word 5 (g .0) x (omega arith) s)
       (used (tables L Members)) (all-used (shaped 5) (tables L Members) shapes)
 
+  -- .. and no more than records
+  pub few-members : (t : List ℕ) → length t ≤ full Members → length (ordered (membersOf (table Members t) g)) ≤ most Members
+  unfolding membersOf used
+  few-members t h =
+      let taken : List Rec = keep (λ r. not (free? r)) (table Members t) in
+      let kept : List Rec = keep (inGroup g) taken in
+      omega (
+        arith,
+        few-ordered (map memberNumber kept),
+        length-map kept memberNumber,
+        few-kept (inGroup g) taken,
+        few-kept (λ r. not (free? r)) (table Members t),
+        length-records (size Members) t,
+      )
+
 -- Where the number stands in the reply: behind the code, the name's length and the name
 
 word-behind : (n a b : ℕ) (xs rest : List ℕ) → length xs ≡ n → word (2 + n) (0 ∷ n ∷ (xs ++ a ∷ b ∷ rest)) ≡ a * 256 + b
@@ -108,12 +125,17 @@ info-behind r us rest e =
     halves : (n : ℕ) → n / 256 * 256 + n % 256 ≡ n
     halves n = omega arith
 
-name-length : (r : Rec) → shaped 16 r ≡ true → groupFits r ≡ true → length (groupName r) ≡ nameLength r
-unfolding groupFits shaped
-name-length r s h =
-    let long = eqb-true (length r) 16 (split s .0) in
-    let name = leb-true (nameLength r) longestName (split (split h .0) .1) in
-    simp (length-take, length-drop) (omega arith)
+-- a group's name, which its record holds whole
+pub name-length : (r : Rec) → length r ≡ size Groups → nameLength r ≤ longestName → length (groupName r) ≡ nameLength r
+name-length r h l = length-take-le (nameLength r) (drop 3 r) (rw length-drop (omega arith))
+
+pub name-fits : (r : Rec) → groupFits r ≡ true → nameLength r ≤ longestName
+unfolding groupFits
+name-fits r h = leb-true (nameLength r) longestName (split (split h .0) .1)
+
+long-enough : (r : Rec) → shaped 16 r ≡ true → length r ≡ size Groups
+unfolding shaped
+long-enough r s = eqb-true (length r) 16 (split s .0)
 
 module _ (L : Lent) (g : GroupAddress) (S : Sane L) (e : groupExists (tables L Groups) g ≡ true) where
   shapes : all (shaped 16) (used (tables L Groups)) ≡ true
@@ -129,7 +151,8 @@ module _ (L : Lent) (g : GroupAddress) (S : Sane L) (e : groupExists (tables L G
   pub info-count : (rest : List ℕ) → word (2 + octet 1 (told rest)) (told rest) ≡ count (λ x. eqb (memberGroup x .0) (g .0)) (used (tables L Members))
   unfolding groupInfo groupExists
   info-count rest =
-      info-behind (firstOf [] (addressed (g .0)) (used (tables L Groups))) (ordered (membersOf (tables L Members) g)) rest
-      (name-length _ (first-passes [] (addressed (g .0)) (shaped 16) (used (tables L Groups)) e shapes)
-      (first-passes [] (addressed (g .0)) groupFits (used (tables L Groups)) e meets))
+      let r : Rec = firstOf [] (addressed (g .0)) (used (tables L Groups)) in
+      info-behind r (ordered (membersOf (tables L Members) g)) rest
+      (name-length r (long-enough r (first-passes [] (addressed (g .0)) (shaped 16) (used (tables L Groups)) e shapes))
+      (name-fits r (first-passes [] (addressed (g .0)) groupFits (used (tables L Groups)) e meets)))
       ∙ length-members g L S

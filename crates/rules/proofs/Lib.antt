@@ -20,6 +20,7 @@ pub mod Counts
 pub mod Condition3
 pub mod Stands
 pub mod RoundTrip
+pub mod Replied
 pub mod Whole
 pub mod Precedence
 pub mod Samples

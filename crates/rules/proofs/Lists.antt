@@ -184,6 +184,10 @@ module _ {A : Type 0} where
   count-length p [] = omega arith
   count-length p (x ∷ l) = let h = count-length p l in elim (p x) as (λ b. tick b (count p l) ≤ suc (length l)) [ true ↦ omega arith | false ↦ omega arith ]
 
+  -- no more are kept than there are
+  pub few-kept : (p : A → Bool) (l : List A) → length (keep p l) ≤ length l
+  few-kept p l = rw (length-kept p l) (count-length p l)
+
   pub count-some : (p : A → Bool) (l : List A) → any p l ≡ true → 1 ≤ count p l
   unfolding some?
   count-some p l h = step (count p l) (sym (any-count p l) ∙ h)

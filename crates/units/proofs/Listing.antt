@@ -8,6 +8,7 @@ use Rattle.words.specs.Basics.{take-append-drop, sets, length-take-le, drop-at,
 use Rattle.rules.specs.Lists.{has}
 use Rattle.rules.specs.Octets.{word, over}
 use Rattle.rules.specs.Units.{unitNumber, unitAt, threeOctets, unitOctets}
+use Rattle.rules.proofs.Order.{length-unitOctets}
 use Rattle.units.specs.Listing.{units, addedAll, Taken, Enough}
 use Rattle.units.proofs.Units.{or-either, has-none, has-cons}
 use Rattle.units.proofs.Taking.{added-there, added-new, addedAll-grows}
@@ -36,11 +37,6 @@ unfolding unitAt unitNumber word threeOctets
 unit-read u l = omega arith
 
 -- Units and their octets
-
-pub length-unitOctets : (us : List ℕ) → length (unitOctets us) ≡ 3 * length us
-unfolding unitOctets threeOctets flatMap
-length-unitOctets [] = refl
-length-unitOctets (u ∷ us) = omega (arith, length-unitOctets us)
 
 unitOctets-append : (us vs : List ℕ) → unitOctets (us ++ vs) ≡ unitOctets us ++ unitOctets vs
 unfolding unitOctets flatMap
