@@ -23,16 +23,16 @@ use Rattle.gneissfold.proofs.gneissfold_read.Kinds as read-kinds
 use Rattle.gneissfold.proofs.gneissfold_read.Reads as read-reads
 
 -- what a call tells and leaves: its number, what is lent to be written as it is at exit, the rest as it was lent
-abbrev message-tells : (κs : Lfts 8) (a : World.ArgsD gneissfold_message.signature κs)
+abbrev pub message-tells : (κs : Lfts 8) (a : World.ArgsD gneissfold_message.signature κs)
     (r : World.ResD gneissfold_message.signature κs) (s : Clauses.AtExit (K.endedOf 8 message-kinds.ps message-kinds.r) κs) → MessageTold
 message-tells κs a r s = messageTold r (now (s .1 .1 .1 .1 .1 .1 .1 .0))
     (lent (now (s .0)) (now (s .1 .0)) (now (s .1 .1 .0)) (now (s .1 .1 .1 .0))) (now (s .1 .1 .1 .1 .1 .0)) (now (s .1 .1 .1 .1 .1 .1 .0))
 
-abbrev admit-tells : (κs : Lfts 4) (a : World.ArgsD gneissfold_admit.signature κs) (r : World.ResD gneissfold_admit.signature κs)
+abbrev pub admit-tells : (κs : Lfts 4) (a : World.ArgsD gneissfold_admit.signature κs) (r : World.ResD gneissfold_admit.signature κs)
     (s : Clauses.AtExit (K.endedOf 4 admit-kinds.ps admit-kinds.r) κs) → HostTold
 admit-tells κs a r s = hostTold r (lent (now (s .0)) (now (a .1 .0)) (now (a .1 .1 .0)) (now (a .1 .1 .1 .0)))
 
-abbrev release-tells : (κs : Lfts 4) (a : World.ArgsD gneissfold_release.signature κs)
+abbrev pub release-tells : (κs : Lfts 4) (a : World.ArgsD gneissfold_release.signature κs)
     (r : World.ResD gneissfold_release.signature κs) (s : Clauses.AtExit (K.endedOf 4 release-kinds.ps release-kinds.r) κs) → HostTold
 release-tells κs a r s = hostTold r (lent (now (s .0)) (now (s .1 .0)) (now (a .1 .1 .0)) (now (s .1 .1 .1 .0)))
 

@@ -1,12 +1,14 @@
--- An answer of `rules`, told in numbers: what each exported call returns, once the call of `hub` has answered and `number` and `value` have told its outcome.
-use Rattle.words.specs.Basics.{_≡_, ap, List, ℕ}
+-- An answer of `rules`, told in numbers: what each exported call returns, once the call of `hub` has answered and `number` and `value` have told its outcome;
+-- and what a caller reads from the numbers.
+use Rattle.words.specs.Basics.{_≡_, ap, _∙_, List, ℕ}
 use Rattle.words.specs.Outcomes.{numberOf, valueOf}
+use Rattle.words.proofs.Apart.{readBack, read-back}
 use Rattle.rules.specs.Types.{Outcome, Reading}
 use Rattle.rules.specs.Frame.{Lent}
 use Rattle.rules.specs.Calls.{Answer, answer}
 use Rattle.rules.specs.Copy.{CopyAnswer, copyAnswer}
 use Rattle.rules.specs.Host.{HostAnswer, hostAnswer}
-use Rattle.gneissfold.specs.Numbers.{messageTold, ofMessage, hostTold, ofHost, copyTold, ofCopy, readTold, ofReading, twelve}
+use Rattle.gneissfold.specs.Numbers.{MessageTold, messageTold, ofMessage, HostTold, hostTold, ofHost, copyTold, ofCopy, readTold, ofReading, twelve}
 
 pub message-tells : {o : Outcome} {L : Lent} {r l : List ℕ} {a : Answer} {n c : ℕ}
     → answer o L r l ≡ a → n ≡ numberOf o → c ≡ valueOf o → messageTold n c L r l ≡ ofMessage a
@@ -22,3 +24,17 @@ copy-tells e p q = rw (p, q) (ap ofCopy e)
 pub read-tells : {x a : Reading} {fs : List ℕ} {n : ℕ}
     → x ≡ a → n ≡ numberOf (x .outcome) → fs ≡ twelve (x .fields) → readTold n fs ≡ ofReading a
 read-tells e p q = rw (p, q) (ap ofReading e)
+
+-- Back again: the answer of `rules` that a caller reads from what it is told. A host call tells no count, which is 0.
+
+abbrev pub answerOf : MessageTold → Answer
+answerOf t = answer (readBack (t .number) (t .count)) (t .tables) (t .reply) (t .list)
+
+abbrev pub hostAnswerOf : HostTold → HostAnswer
+hostAnswerOf t = hostAnswer (readBack (t .number) 0) (t .tables)
+
+pub message-told : {t : MessageTold} (x : Answer) → t ≡ ofMessage x → answerOf t ≡ x
+message-told x e = ap answerOf e ∙ rw (read-back (x .outcome))
+
+pub host-told : {t : HostTold} (x : HostAnswer) → valueOf (x .outcome) ≡ 0 → t ≡ ofHost x → hostAnswerOf t ≡ x
+host-told x v e = ap hostAnswerOf e ∙ rw (← v, read-back (x .outcome))

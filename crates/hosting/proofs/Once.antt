@@ -16,7 +16,7 @@ use Rattle.hosting.proofs.release.Reads as release-reads
 -- what a call answers and leaves: its outcome, the tables lent to be written as they are at exit, the others as they were lent
 
 module _ (κs : Lfts (admit.signature .lifetimes)) (a : World.ArgsD admit.signature κs) where
-  abbrev admit-answer : World.ResD admit.signature κs → Clauses.AtExit (K.endedOf _ admit-kinds.ps admit-kinds.r) κs → HostAnswer
+  abbrev pub admit-answer : World.ResD admit.signature κs → Clauses.AtExit (K.endedOf _ admit-kinds.ps admit-kinds.r) κs → HostAnswer
   admit-answer r s = hostAnswer r (lent (now (s .0)) (now (a .1 .0)) (now (a .1 .1 .0)) (now (a .1 .1 .1 .0)))
 
   pub admit-once : (r r' : World.ResD admit.signature κs) (s s' : Clauses.AtExit (K.endedOf _ admit-kinds.ps admit-kinds.r) κs)
@@ -24,7 +24,7 @@ module _ (κs : Lfts (admit.signature .lifetimes)) (a : World.ArgsD admit.signat
   admit-once r r' s s' p q = p ∙ sym q
 
 module _ (κs : Lfts (release.signature .lifetimes)) (a : World.ArgsD release.signature κs) where
-  abbrev release-answer : World.ResD release.signature κs → Clauses.AtExit (K.endedOf _ release-kinds.ps release-kinds.r) κs → HostAnswer
+  abbrev pub release-answer : World.ResD release.signature κs → Clauses.AtExit (K.endedOf _ release-kinds.ps release-kinds.r) κs → HostAnswer
   release-answer r s = hostAnswer r (lent (now (s .0)) (now (s .1 .0)) (now (a .1 .1 .0)) (now (s .1 .1 .1 .0)))
 
   pub release-once : (r r' : World.ResD release.signature κs) (s s' : Clauses.AtExit (K.endedOf _ release-kinds.ps release-kinds.r) κs)

@@ -11,7 +11,7 @@ use Rattle.hub.proofs.message.Kinds as message-kinds
 use Rattle.hub.proofs.message.Reads as message-reads
 
 -- what the call answers and leaves: its outcome, and what was lent to be written as it is at exit
-abbrev message-answer : (κs : Lfts (message.signature .lifetimes)) (r : World.ResD message.signature κs)
+abbrev pub message-answer : (κs : Lfts (message.signature .lifetimes)) (r : World.ResD message.signature κs)
     (s : Clauses.AtExit (K.endedOf _ message-kinds.ps message-kinds.r) κs) → Answer
 message-answer κs r s =
     answer r (lent (now (s .0)) (now (s .1 .0)) (now (s .1 .1 .0)) (now (s .1 .1 .1 .0))) (now (s .1 .1 .1 .1 .1 .0)) (now (s .1 .1 .1 .1 .1 .1 .0))

@@ -1,6 +1,6 @@
 -- The host calls: admit and release, where they do something, change the tables in order and as the history's entries say.
 use Rattle.words.specs.Basics.{_≡_, refl, _∙_, Bool, true, false, cond, not, _||_, ℕ, _<_, arith, eqb, not-true, eq-eqb}
-use Rattle.words.specs.Outcomes.{numberOf}
+use Rattle.words.specs.Outcomes.{numberOf, valueOf}
 use Rattle.rules.specs.Types.{DeviceAddress, Devices, Binds, Members, Outcome, Done, Unsound, OutOfRange, AlreadyAdmitted, NoFreeRecord, NotAdmitted}
 use Rattle.rules.specs.Lists.{ask, _&_}
 use Rattle.rules.specs.Octets.{octets}
@@ -100,3 +100,19 @@ pub hosted-release : (L : Lent) (d : DeviceAddress) → Sane L → Hosted L (rel
 unfolding settled release
 hosted-release L d S =
     hosted-ask Unsound refl (λ s. hosted-ask NotAdmitted refl (λ a. let l = admitted-small L d S a in granting (ok-release L d l) (told-release L d l)))
+
+-- Neither has a count or a length
+
+value-ask : (w : Bool) (o rest : Outcome) → valueOf o ≡ 0 → valueOf rest ≡ 0 → valueOf (ask w o rest) ≡ 0
+unfolding ask
+value-ask true o rest h g = g
+value-ask false o rest h g = h
+
+pub value-admit : (L : Lent) (d : DeviceAddress) (a u : ℕ) → valueOf (admit L d a u .outcome) ≡ 0
+unfolding settled admit admission
+value-admit L d a u =
+    value-ask _ Unsound _ refl (value-ask _ OutOfRange _ refl (value-ask _ AlreadyAdmitted _ refl (value-ask _ NoFreeRecord (Done 0) refl refl)))
+
+pub value-release : (L : Lent) (d : DeviceAddress) → valueOf (release L d .outcome) ≡ 0
+unfolding settled release
+value-release L d = value-ask _ Unsound _ refl (value-ask _ NotAdmitted (Done 0) refl refl)

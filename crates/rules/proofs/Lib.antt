@@ -18,6 +18,7 @@ pub mod Run
 pub mod Links
 pub mod Counts
 pub mod Condition3
+pub mod Seen
 pub mod Stands
 pub mod RoundTrip
 pub mod Replied

@@ -16,3 +16,4 @@ pub mod Copy
 pub mod Host
 pub mod Calls
 pub mod History
+pub mod Seen

@@ -1,4 +1,4 @@
--- The paper's number and value tell any two outcomes apart: from them the outcome can be read back.
+-- The paper's number and value tell any two outcomes apart: from them the outcome can be read back, as a caller does who is told the two.
 use mathlib.Core.Path.{_≡_, refl, sym, ap₂, _∙_}
 use mathlib.Core.Bool.{cond}
 use Prim.Native.Nat.{ℕ}
@@ -10,7 +10,7 @@ use Rattle.words.specs.declared.Outcome.the-variants.{ResponseToMany, Un
 use Rattle.words.specs.declared.Outcome.the-variants.{NoFreeRecord, NotAdmitted}
 
 -- the outcome with this number and value
-abbrev readBack : ℕ → ℕ → Outcome
+unfoldable pub readBack : ℕ → ℕ → Outcome
 readBack n v =
     cond (eqb n 0) (Done v)
     (cond (eqb n 1) (Forwarded v)
@@ -30,7 +30,8 @@ readBack n v =
     (cond (eqb n 22) NoFreeRecord
     NotAdmitted)))))))))))))))
 
-read-back : (o : Outcome) → readBack (numberOf o) (valueOf o) ≡ o
+pub read-back : (o : Outcome) → readBack (numberOf o) (valueOf o) ≡ o
+unfolding readBack
 read-back (Done n) = refl
 read-back (Forwarded n) = refl
 read-back Nobody = refl

@@ -1,0 +1,72 @@
+-- From contracts to runs: `message`, `admit` and `release` are called one after the other, each on the tables that the call before it left, and each meets
+-- its contract. What their callers are told is then the history of a run of the rules, and condition 3 holds of it.
+use contract.Lifetimes.{Lfts}
+use borrow.Fn.World
+use borrow.Fn.Kinds as K
+use denote.Triple.Clauses
+use Rattle.words.specs.Basics.{_≡_, true, List, now}
+use Rattle.rules.specs.Lists.{all}
+use Rattle.rules.specs.Frame.{Lent, lent}
+use Rattle.rules.specs.History.{Call, sends, admits, releases, Said, after, Event, history, octetsOnly, freeTables}
+use Rattle.rules.specs.Seen.{saidBy, saidByHost, Seen, calls, SeenHolds}
+use Rattle.rules.proofs.Seen as seen
+use Rattle.hosting.proofs.Once.{admit-answer, release-answer}
+use Rattle.hub.proofs.Once.{message-answer}
+use Rattle.hub.proofs.message
+use Rattle.hub.proofs.message.Kinds as message-kinds
+use Rattle.hub.proofs.message.Reads as message-reads
+use Rattle.hub.proofs.admit
+use Rattle.hub.proofs.admit.Kinds as admit-kinds
+use Rattle.hub.proofs.admit.Reads as admit-reads
+use Rattle.hub.proofs.release
+use Rattle.hub.proofs.release.Kinds as release-kinds
+use Rattle.hub.proofs.release.Reads as release-reads
+
+-- The tables that a call is lent, and the call itself, in its arguments
+
+module _ (κs : Lfts (message.signature .lifetimes)) (a : World.ArgsD message.signature κs) where
+  abbrev message-lent : Lent
+  message-lent = lent (now (a .0)) (now (a .1 .0)) (now (a .1 .1 .0)) (now (a .1 .1 .1 .0))
+
+  abbrev message-call : Call
+  message-call = sends (now (a .1 .1 .1 .1 .0)) (now (a .1 .1 .1 .1 .1 .0)) (now (a .1 .1 .1 .1 .1 .1 .0))
+
+module _ (κs : Lfts (admit.signature .lifetimes)) (a : World.ArgsD admit.signature κs) where
+  abbrev admit-lent : Lent
+  admit-lent = lent (now (a .0)) (now (a .1 .0)) (now (a .1 .1 .0)) (now (a .1 .1 .1 .0))
+
+  abbrev admit-call : Call
+  admit-call = admits (a .1 .1 .1 .1 .0) (a .1 .1 .1 .1 .1 .0) (a .1 .1 .1 .1 .1 .1 .0)
+
+module _ (κs : Lfts (release.signature .lifetimes)) (a : World.ArgsD release.signature κs) where
+  abbrev release-lent : Lent
+  release-lent = lent (now (a .0)) (now (a .1 .0)) (now (a .1 .1 .0)) (now (a .1 .1 .1 .0))
+
+  abbrev release-call : Call
+  release-call = releases (a .1 .1 .1 .1 .0)
+
+-- A call that was made on the tables L and met its contract, with its result r and the state at exit s: the call, what its caller was told, what it left
+pub data Meets (L : Lent) : Call → Said → Lent → Type 0 where
+  by-message : (κs : Lfts (message.signature .lifetimes)) (a : World.ArgsD message.signature κs) (r : World.ResD message.signature κs)
+      (s : Clauses.AtExit (K.endedOf _ message-kinds.ps message-kinds.r) κs) → message-lent κs a ≡ L → message-reads.Post κs a r s
+      → Meets L (message-call κs a) (saidBy (message-answer κs r s)) (message-answer κs r s .tables)
+  by-admit : (κs : Lfts (admit.signature .lifetimes)) (a : World.ArgsD admit.signature κs) (r : World.ResD admit.signature κs)
+      (s : Clauses.AtExit (K.endedOf _ admit-kinds.ps admit-kinds.r) κs) → admit-lent κs a ≡ L → admit-reads.Post κs a r s
+      → Meets L (admit-call κs a) (saidByHost (admit-answer κs a r s)) (admit-answer κs a r s .tables)
+  by-release : (κs : Lfts (release.signature .lifetimes)) (a : World.ArgsD release.signature κs) (r : World.ResD release.signature κs)
+      (s : Clauses.AtExit (K.endedOf _ release-kinds.ps release-kinds.r) κs) → release-lent κs a ≡ L → release-reads.Post κs a r s
+      → Meets L (release-call κs a) (saidByHost (release-answer κs a r s)) (release-answer κs a r s .tables)
+
+-- the contracts say what the rules say
+right : (L : Lent) (c : Call) (a : Said) (M : Lent) → Meets L c a M → seen.AsRules L c a M
+right L c a M (by-message κs b r s e p) = seen.as-message e {x = message-answer κs r s} p
+right L c a M (by-admit κs b r s e p) = seen.as-admit e {x = admit-answer κs b r s} p
+right L c a M (by-release κs b r s e p) = seen.as-release e {x = release-answer κs b r s} p
+
+-- what was seen of such calls is a run
+pub as-run : {L₀ L : Lent} {h : List Event} → Seen Meets L₀ h L → (after L₀ (calls h) ≡ L) × (history L₀ (calls h) ≡ h)
+as-run s = seen.as-run right s
+
+-- condition 3 of what was seen, from free tables on, where every message is a string of octets
+pub seen-holds : {L₀ L : Lent} {h : List Event} → freeTables L₀ ≡ true → Seen Meets L₀ h L → all octetsOnly (calls h) ≡ true → SeenHolds Meets h L
+seen-holds f s o = seen.seen-holds right f s o

@@ -1,0 +1,81 @@
+-- From contracts to runs: where a contract says what the rules say, what callers see of calls that meet it is the history of a run, and the tables that
+-- they then hold are those after it. So condition 3, which is proved of runs, holds of what was seen.
+use mathlib.Core.Path.{subst₂}
+use Rattle.words.specs.Basics.{_≡_, refl, sym, ap, _∙_, true, List, ℕ}
+use Rattle.rules.specs.Types.{DeviceAddress, Binds, Members}
+use Rattle.rules.specs.Lists.{all}
+use Rattle.rules.specs.Frame.{Lent}
+use Rattle.rules.specs.Host.{HostAnswer, admit, release}
+use Rattle.rules.specs.Calls.{roomy, Answer, answer, message}
+use Rattle.rules.specs.History.{Call, sends, admits, releases, Said, said, left, after, Event, history, octetsOnly, granted, memberCount, freeTables}
+use Rattle.rules.specs.Seen.{Contract, saidBy, saidByHost, Seen, begins, goes-on, calls, SeenHolds}
+use Rattle.rules.proofs.Run.{Held, held-run}
+use Rattle.rules.proofs.Condition3.{condition3}
+
+-- A call that was told what the rules say, and left what they say
+
+pub record AsRules (L : Lent) (c : Call) (a : Said) (M : Lent) : Type 0 where
+  pub told : a ≡ said L c
+  pub leaves : M ≡ left L c
+
+-- from the equation of its contract: the tables K that it says are lent are L
+
+module _ {K L : Lent} (k : K ≡ L) where
+  pub as-message : {m r l : List ℕ} {x : Answer} → x ≡ message K m r l → AsRules L (sends m r l) (saidBy x) (x .tables)
+  unfolding said left
+  as-message {m} {r} {l} {x} e =
+      let w : x ≡ message L m r l = e ∙ ap (λ (X : Lent). message X m r l) k in
+      record { told = ap saidBy w; leaves = ap (λ (x : Answer). x .tables) w }
+
+  pub as-admit : {d : DeviceAddress} {rights top : ℕ} {x : HostAnswer} → x ≡ admit K d rights top
+      → AsRules L (admits d rights top) (saidByHost x) (x .tables)
+  unfolding said left
+  as-admit {d} {rights} {top} {x} e =
+      let w : x ≡ admit L d rights top = e ∙ ap (λ (X : Lent). admit X d rights top) k in
+      record { told = ap saidByHost w; leaves = ap (λ (x : HostAnswer). x .tables) w }
+
+  pub as-release : {d : DeviceAddress} {x : HostAnswer} → x ≡ release K d → AsRules L (releases d) (saidByHost x) (x .tables)
+  unfolding said left
+  as-release {d} {x} e =
+      let w : x ≡ release L d = e ∙ ap (λ (X : Lent). release X d) k in
+      record { told = ap saidByHost w; leaves = ap (λ (x : HostAnswer). x .tables) w }
+
+answer-of : {L M : Lent} {m r l : List ℕ} {a : Said} → AsRules L (sends m r l) a M → answer (a .outcome) M (a .reply) (a .list) ≡ message L m r l
+unfolding said left
+answer-of w = rw (w .told, w .leaves)
+
+-- Where every call that meets its contract is such a call
+
+-- room is a matter of lengths, and these stayed
+room-before : {L₀ L : Lent} {h : List Event} → Held L₀ L h → (r l : List ℕ)
+    → roomy (L .binds) (L .members) r l ≡ true → roomy (L₀ .binds) (L₀ .members) r l ≡ true
+unfolding roomy
+room-before k r l e = rw (k .lengths Binds, k .lengths Members) at e
+
+module _ {Meets : Contract} (right : (L : Lent) (c : Call) (a : Said) (M : Lent) → Meets L c a M → AsRules L c a M) where
+  -- what was seen is a run: the tables are those after it, and what was told is its history
+  pub as-run : {L₀ L : Lent} {h : List Event} → Seen Meets L₀ h L → (after L₀ (calls h) ≡ L) × (history L₀ (calls h) ≡ h)
+  unfolding after history
+  as-run begins = (refl, refl)
+  as-run (goes-on {c = c} s m) =
+      let k = as-run s in
+      let w = right _ _ _ _ m in
+      (ap (λ (X : Lent). left X c) (k .0) ∙ sym (w .leaves), rw (k .0, k .1, w .told))
+
+  -- the same of a run
+  run-holds : (L₀ : Lent) → freeTables L₀ ≡ true → (cs : List Call) → all octetsOnly cs ≡ true → SeenHolds Meets (history L₀ cs) (after L₀ cs)
+  run-holds L₀ f cs o =
+      let H = condition3 L₀ f cs o in
+      let k = held-run L₀ f cs o in
+      record {
+        sound = H .sound;
+        delivered = λ {m} {r} {l} x q e us u. answer-of (right _ _ _ _ x) ∙ H .delivered m r l us q (room-before k r l e) u;
+        linked-units = H .linked-units;
+        counts = λ {m} {r} {l} x c g.
+            let w = right _ _ _ _ x in
+            ap memberCount (w .told) ∙ H .counts m r l c (ap (granted (sends m r l)) (sym (w .told)) ∙ g);
+      }
+
+  -- condition 3 of what was seen
+  pub seen-holds : {L₀ L : Lent} {h : List Event} → freeTables L₀ ≡ true → Seen Meets L₀ h L → all octetsOnly (calls h) ≡ true → SeenHolds Meets h L
+  seen-holds {L₀} {L} {h} f s o = let k = as-run s in subst₂ (λ (h : List Event) (L : Lent). SeenHolds Meets h L) (k .1) (k .0) (run-holds L₀ f (calls h) o)
