@@ -67,6 +67,7 @@ right L c a M (by-release κs b r s e p) = seen.as-release e {x = release-answer
 pub as-run : {L₀ L : Lent} {h : List Event} → Seen Meets L₀ h L → (after L₀ (calls h) ≡ L) × (history L₀ (calls h) ≡ h)
 as-run s = seen.as-run right s
 
--- condition 3 of what was seen, from free tables on, where every message is a string of octets
+-- condition 3 of what was seen, from free tables on. That every message is a string of octets stays a premise: a contract speaks of lists of numbers, and
+-- what a lent slice can hold is known where it is read, not from the contract.
 pub seen-holds : {L₀ L : Lent} {h : List Event} → freeTables L₀ ≡ true → Seen Meets L₀ h L → all octetsOnly (calls h) ≡ true → SeenHolds Meets h L
 seen-holds f s o = seen.seen-holds right f s o
