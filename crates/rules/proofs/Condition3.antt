@@ -4,7 +4,7 @@ use Rattle.words.specs.Basics.{_≡_, refl, sym, ap, _∙_, true, false≢true,
 use Rattle.words.specs.Names.{code, ok, headerLength}
 use Rattle.rules.specs.Types.{DeviceAddress, Fields, BindAddress, GetGroupInfo, Is, Devices, Binds, Groups, Members}
 use Rattle.rules.specs.Lists.{ask, _&_}
-use Rattle.rules.specs.Octets.{octet, word, octets, over}
+use Rattle.rules.specs.Octets.{octet, word, octets, octetString, over}
 use Rattle.rules.specs.Frame.{Lent, tables}
 use Rattle.rules.specs.Message.{fields, payload, reads, header, reply}
 use Rattle.rules.specs.Exists.{unitExists}
@@ -12,10 +12,11 @@ use Rattle.rules.specs.Recipients.{recipients}
 use Rattle.rules.specs.Payloads.{command, groupNamed}
 use Rattle.rules.specs.Commands.{judge, onOk, replyPayload, groupInfo}
 use Rattle.rules.specs.Calls.{roomy, wayTo, wayOn, way, Answer, answered, handled, forwarded, follow, message}
-use Rattle.rules.specs.History.{sends, said, after, Event, history, granted, counted, Request, Exactly, memberCount, Condition3}
+use Rattle.rules.specs.History.{sends, said, after, Event, history, granted, counted, Request, Exactly, memberCount, groupSaid, Condition3}
+use Rattle.rules.proofs.Numbers.{group-said}
 use Rattle.rules.proofs.Standing.{Agree}
 use Rattle.rules.proofs.Granted.{info-granted}
-use Rattle.rules.proofs.Steps.{grantedBy, Answers, leaves, handles, answers, handled-granted}
+use Rattle.rules.proofs.Steps.{grantedBy, Answers, leaves, handles, answers, handled-granted, octets-payload}
 use Rattle.rules.proofs.Run.{Held, held-run}
 use Rattle.rules.proofs.Links.{members, exists, exactly-recipients, recipients-only}
 use Rattle.rules.proofs.Counts.{info-count}
@@ -41,17 +42,18 @@ module _ (L₀ L : Lent) (h : List Event) (k : Held L₀ L h) where
       let f : Fields = fields m in
       let is : unitExists (tables L Devices) (f .source) (f .«source_unit») ≡ true = exists L₀ L h k (f .source) (f .«source_unit») ∙ q .sent in
       rw (room-kept r l e, k .sane .sound, q .length, q .data-length, q .type, is, q .request, q .to-binds)
-      (ap (λ us. forwarded us L r l) (recipients-only L₀ L h k f us x))
+      (ap (λ us. forwarded us L r l) (recipients-only L₀ L h k m (q .octets) us x))
 
   info-payload : (s : DeviceAddress) (p : List ℕ) → judge (tables L) s GetGroupInfo p ≡ ok
       → replyPayload (tables L) GetGroupInfo p (judge (tables L) s GetGroupInfo p) ≡ ok .0 ∷ groupInfo (tables L Groups) (tables L Members) (groupNamed p)
   unfolding replyPayload onOk
   info-payload s p j = rw j
 
-  counted-right : (m r l : List ℕ) → command (fields m) ≡ Is GetGroupInfo → granted (sends m r l) (said L (sends m r l)) ≡ true
-      → memberCount (said L (sends m r l)) ≡ counted h (groupNamed (payload m))
+  counted-right : (m r l : List ℕ) → octetString m ≡ true → command (fields m) ≡ Is GetGroupInfo → granted (sends m r l) (said L (sends m r l)) ≡ true
+      → memberCount (said L (sends m r l)) ≡ counted h (groupSaid (payload m))
   unfolding memberCount said granted grantedBy countIn counted Agree handled answered
-  counted-right m r l c g = by (message L m r l) refl (answers L m r l)
+  counted-right m r l o c g =
+      by (message L m r l) refl (answers L m r l) ∙ ap (counted h) (group-said (payload m) (octets-payload m o))
     where
       by : (a : Answer) → message L m r l ≡ a → Answers L m r l a → countIn (message L m r l .reply) ≡ counted h (groupNamed (payload m))
       by a e (leaves t n) = absurd (false≢true (sym (ap grantedBy e ∙ n) ∙ g))
@@ -72,9 +74,9 @@ condition3 L f cs o =
     record {
       sound = k .sane .sound;
       delivered = delivered L (after L cs) (history L cs) k;
-      linked-units = λ m. (
-        recipients (tables (after L cs) Binds) (tables (after L cs) Members) BindAddress m,
-        exactly-recipients L (after L cs) (history L cs) k m,
+      linked-units = λ m o. (
+        recipients (tables (after L cs) Binds) (tables (after L cs) Members) BindAddress (fields m),
+        exactly-recipients L (after L cs) (history L cs) k m o,
       );
       counts = counted-right L (after L cs) (history L cs) k;
     }

@@ -1,28 +1,29 @@
 -- Every command answered 0x00 changes the tables in order, and changes them as the history's entries say.
 use Rattle.words.specs.Basics.{_≡_, refl, sym, ap, _∙_, Bool, true, false, cond, not, false≢true, List, ℕ, _+_, _*_, _<_, _≤_, arith, length, take, take-all}
-use Rattle.words.specs.Basics.{not-true, eq-eqb, eqb-true, leb-true}
+use Rattle.words.specs.Basics.{eqb, not-true, eq-eqb, eqb-true, leb-true}
 use Rattle.words.specs.Names.{code, ok, notAuthorized, invalidArgument, notEnoughResources}
 use Rattle.rules.specs.Types.{DeviceAddress, GroupAddress, Code, Command, AddBind, RemoveBinds, CreateGroup, DeleteGroup, AddToGroup, RemoveFromGroup}
 use Rattle.rules.specs.Types.{GetGroupInfo, Kind, Devices, Binds, Groups, Members}
-use Rattle.rules.specs.Lists.{any, ask}
+use Rattle.rules.specs.Lists.{any, ask, _&_}
 use Rattle.rules.specs.Octets.{octet, octets, octetString}
 use Rattle.rules.specs.Tables.{Rec, used, someFree, matches, addressed, Change, none, store, wipe}
-use Rattle.rules.specs.Layout.{size, key, longestName, memberGroup, boundGroup, groupRecord, toThisGroup, inGroup}
+use Rattle.rules.specs.Layout.{size, key, longestName, memberGroup, toGroup, boundGroup, groupRecord, toThisGroup, inGroup}
 use Rattle.rules.specs.Frame.{Lent, Tables, tables, also, Effect, nothing, only}
 use Rattle.rules.specs.Exists.{groupExists}
 use Rattle.rules.specs.Sound.{wholeRecords, fits, sound}
 use Rattle.rules.specs.Payloads.{bindOf, memberOf, groupNamed}
 use Rattle.rules.specs.Commands.{addition, naming, creation, newGroup, row, payloadFits, judge}
-use Rattle.rules.specs.History.{Entry, Entries, hasPage, silence, lines}
+use Rattle.rules.specs.History.{Entry, Entries, hasPage, silence, groupSaid, lines}
 use Rattle.rules.proofs.Lists.{never, split, join}
 use Rattle.rules.proofs.Frames.{also-all, also-both}
 use Rattle.rules.proofs.Records.{length-records}
 use Rattle.rules.proofs.Words.{shaped, addressed-word, to-group, apart}
+use Rattle.rules.proofs.Numbers.{bind-said, group-said, member-said, bind-named, member-named}
 use Rattle.rules.proofs.Changes.{Storable, New, spares}
 use Rattle.rules.proofs.Distinct.{lone}
 use Rattle.rules.proofs.Fresh.{new-low, new-high, new-fresh}
 use Rattle.rules.proofs.Kept.{Sane, InOrder, Ok, order-none, order-wipe, whole-at, bind-kept, member-kept, ok-nothing}
-use Rattle.rules.proofs.Standing.{Says, says-nothing, says-added, says-withdrawn}
+use Rattle.rules.proofs.Standing.{Says, says-nothing, says-stored, says-withdrawn}
 use Rattle.rules.proofs.Stored.{Stored, bind-stored, member-stored, named-small, group-stored, group-meets}
 
 -- a check that a command answered 0x00 passed
@@ -170,23 +171,32 @@ module _ (L : Lent) (p : List ℕ) (o : octetString p ≡ true) where
   unfolding lines hasPage
   told-delete =
       told-apart Groups _ refl
-      (told-also Members (says-withdrawn (λ r s. addressed-word (size Members) (g .0) r (omega arith) s))
-      (told-also Binds (says-withdrawn (λ b s. to-group g b small s)) told-nothing))
+      (told-also Members (says-withdrawn (λ x s. addressed-word (size Members) (g .0) x (omega arith) s ∙ ap (λ w. eqb (memberGroup x .0) w) said))
+      (told-also Binds (says-withdrawn (λ b s. to-group g b small s ∙ ap (λ w. toGroup b & eqb (boundGroup b .0) w) said)) told-nothing))
+    where
+      said : g .0 ≡ groupSaid p .0
+      said = ap (λ (g : GroupAddress). g .0) (group-said p o)
 
   granted-by : (k : Command) → Sane L → length p ≡ row k .length p → row k .verdict (tables L) p ≡ ok → Granted L k p
   unfolding lines fits silence hasPage
   granted-by AddBind S l v =
-      record { ok = ok-binds _ (order-added Binds L (bindOf p) refl (bind-stored p l o) v); told = told-also Binds says-added told-nothing }
+      record {
+        ok = ok-binds _ (order-added Binds L (bindOf p) refl (bind-stored p l o) v);
+        told = told-also Binds (says-stored (bind-said p o l)) told-nothing;
+      }
   granted-by (RemoveBinds q) S l v =
-      record { ok = ok-binds _ (order-wipe Binds L _); told = told-also Binds (says-withdrawn (λ r s. refl)) told-nothing }
+      record { ok = ok-binds _ (order-wipe Binds L _); told = told-also Binds (says-withdrawn (bind-named p o q l)) told-nothing }
   granted-by CreateGroup S l v =
       record { ok = ok-create S l v; told = told-apart Groups _ refl told-nothing }
   granted-by DeleteGroup S l v =
       record { ok = ok-delete; told = told-delete }
   granted-by AddToGroup S l v =
-      record { ok = ok-members _ (order-added Members L (memberOf p) refl (member-stored p l o) v); told = told-also Members says-added told-nothing }
+      record {
+        ok = ok-members _ (order-added Members L (memberOf p) refl (member-stored p l o) v);
+        told = told-also Members (says-stored (member-said p o l)) told-nothing;
+      }
   granted-by RemoveFromGroup S l v =
-      record { ok = ok-members _ (order-wipe Members L _); told = told-also Members (says-withdrawn (λ r s. refl)) told-nothing }
+      record { ok = ok-members _ (order-wipe Members L _); told = told-also Members (says-withdrawn (member-named p o l)) told-nothing }
   granted-by GetGroupInfo S l v =
       record { ok = ok-nothing L; told = told-nothing }
 

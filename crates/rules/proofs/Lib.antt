@@ -2,6 +2,7 @@
 pub mod Lists
 pub mod Records
 pub mod Words
+pub mod Numbers
 pub mod Changes
 pub mod Distinct
 pub mod Order

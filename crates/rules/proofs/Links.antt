@@ -2,16 +2,18 @@
 use Rattle.words.specs.Basics.{_≡_, refl, sym, ap, _∙_, Bool, true, false, cond, not, _&&_, _||_, List, [], _∷_, ℕ, arith, eqb, leb}
 use Rattle.rules.specs.Types.{DeviceAddress, GroupAddress, Fields, BindAddress, Devices, Binds, Members}
 use Rattle.rules.specs.Lists.{any, all, keep, has, _&_}
+use Rattle.rules.specs.Octets.{octetString}
 use Rattle.rules.specs.Units.{rising}
 use Rattle.rules.specs.Tables.{Rec, used}
 use Rattle.rules.specs.Layout.{size, deviceAddress, deviceHighest, toGroup, boundGroup, bindTo, memberGroup, memberNumber, inGroup}
 use Rattle.rules.specs.Frame.{Lent, tables}
-use Rattle.rules.specs.Message.{sender}
+use Rattle.rules.specs.Message.{fields, sender}
 use Rattle.rules.specs.Exists.{hasUnit, unitExists}
 use Rattle.rules.specs.Recipients.{membersOf, bindMatches, reached, bound, recipients}
-use Rattle.rules.specs.History.{Event, hasPage, standing, reaches, linked, existing, Exactly}
-use Rattle.rules.proofs.Lists.{any-same, any-alike, any-keep, any-map, any-flatMap}
+use Rattle.rules.specs.History.{Event, hasPage, standing, reaches, madeFor, linked, existing, Exactly}
+use Rattle.rules.proofs.Lists.{any-alike, any-keep, any-map, any-flatMap}
 use Rattle.rules.proofs.Words.{shaped, addressed-word}
+use Rattle.rules.proofs.Numbers.{made-for}
 use Rattle.rules.proofs.Changes.{all-used, shaped-records}
 use Rattle.rules.proofs.Distinct.{eqb-turn}
 use Rattle.rules.proofs.Order.{has-ordered, has-without, rising-ordered, rising-unique}
@@ -61,29 +63,42 @@ module _ (L₀ L : Lent) (h : List Event) (k : Held L₀ L h) where
   abbrev listed : Fields → List ℕ
   listed f = recipients (tables L Binds) (tables L Members) BindAddress f
 
-  has-recipients : (f : Fields) (u : ℕ) → has u (listed f) ≡ (not (eqb u (sender f)) & linked h f u)
-  unfolding recipients bound linked has _&_
-  has-recipients f u =
-      has-ordered u _
-      ∙ has-without u (sender f) _
-      ∙ ap (λ w. not (eqb u (sender f)) && w)
-      (any-flatMap (eqb u) (reached (tables L Members)) (keep (bindMatches f) (used (tables L Binds)))
-      ∙ any-keep (λ b. any (eqb u) (reached (tables L Members) b)) (bindMatches f) (used (tables L Binds))
-      ∙ any-same _ _ (λ b. ap (λ w. bindMatches f b && w)
-      (has-reached (tables L Members) (shaped-records (size Members) (L .members) (k .sane .octets Members)) u b
-      ∙ reaches-agree (tables L Members) _ members u b)) (used (tables L Binds))
-      ∙ agree-any (tables L Binds) _ binds _)
+  module _ (m : List ℕ) (o : octetString m ≡ true) where
+    abbrev f : Fields
+    f = fields m
 
-  rising-recipients : (f : Fields) → rising (listed f) ≡ true
-  unfolding recipients
-  rising-recipients f = rising-ordered _
+    -- the tables compare fields, the history numbers
+    same-bind : (u : ℕ) (b : Rec) → shaped (size Binds) b ≡ true
+        → (bindMatches f b && any (eqb u) (reached (tables L Members) b)) ≡ (madeFor f b && reaches (standing Members h) u b)
+    same-bind u b s =
+        rw (
+          made-for m o b s,
+          has-reached (tables L Members) (shaped-records (size Members) (L .members) (k .sane .octets Members)) u b,
+          reaches-agree (tables L Members) _ members u b,
+        )
 
-  -- the recipients are exactly the linked units, and there is one such list
-  pub exactly-recipients : (f : Fields) → Exactly h f (listed f)
-  exactly-recipients f = record { order = rising-recipients f; exact = has-recipients f }
+    has-recipients : (u : ℕ) → has u (listed f) ≡ (not (eqb u (sender f)) & linked h f u)
+    unfolding recipients bound linked has _&_
+    has-recipients u =
+        has-ordered u _
+        ∙ has-without u (sender f) _
+        ∙ ap (λ w. not (eqb u (sender f)) && w)
+        (any-flatMap (eqb u) (reached (tables L Members)) (keep (bindMatches f) (used (tables L Binds)))
+        ∙ any-keep (λ b. any (eqb u) (reached (tables L Members) b)) (bindMatches f) (used (tables L Binds))
+        ∙ any-alike (shaped (size Binds)) _ (λ b. madeFor f b && reaches (standing Members h) u b) (same-bind u) (used (tables L Binds))
+        (all-used (shaped (size Binds)) (tables L Binds) (shaped-records (size Binds) (L .binds) (k .sane .octets Binds)))
+        ∙ agree-any (tables L Binds) _ binds _)
 
-  pub recipients-only : (f : Fields) (us : List ℕ) → Exactly h f us → listed f ≡ us
-  recipients-only f us x = rising-unique _ us (rising-recipients f) (x .order) (λ u. has-recipients f u ∙ sym (x .exact u))
+    rising-recipients : rising (listed f) ≡ true
+    unfolding recipients
+    rising-recipients = rising-ordered _
+
+    -- the recipients are exactly the linked units, and there is one such list
+    pub exactly-recipients : Exactly h f (listed f)
+    exactly-recipients = record { order = rising-recipients; exact = has-recipients }
+
+    pub recipients-only : (us : List ℕ) → Exactly h f us → listed f ≡ us
+    recipients-only us x = rising-unique _ us rising-recipients (x .order) (λ u. has-recipients u ∙ sym (x .exact u))
 
   pub exists : (d : DeviceAddress) (u : ℕ) → unitExists (tables L Devices) d u ≡ existing h d u
   unfolding unitExists existing hasUnit

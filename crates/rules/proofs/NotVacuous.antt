@@ -5,7 +5,7 @@ use Rattle.rules.specs.Types.{Is, GetGroupInfo, Forwarded}
 use Rattle.rules.specs.Lists.{all}
 use Rattle.rules.specs.Message.{fields}
 use Rattle.rules.specs.Payloads.{command}
-use Rattle.rules.specs.Octets.{over}
+use Rattle.rules.specs.Octets.{octetString, over}
 use Rattle.rules.specs.Units.{threeOctets, unitOctets}
 use Rattle.rules.specs.Calls.{roomy, message, answer, forwarded}
 use Rattle.rules.specs.History.{Call, sends, said, after, Event, history, octetsOnly, granted, freeTables, Request, Exactly, memberCount}
@@ -45,6 +45,7 @@ pub record Meets : Type 0 where
   pub room : roomy (start .binds) (start .members) reply list ≡ true
   pub exactly : Exactly events (fields asked) both
   -- of `counts`
+  pub info-octets : octetString info ≡ true
   pub asks : command (fields info) ≡ Is GetGroupInfo
   pub granted : granted (sends info reply list) (said (after start calls) (sends info reply list)) ≡ true
 
@@ -70,9 +71,10 @@ unfolding whole calls
 meets = record {
   free = refl;
   octets = refl;
-  request = record { length = refl; data-length = refl; type = refl; request = refl; sent = refl; to-binds = refl };
+  request = record { octets = refl; length = refl; data-length = refl; type = refl; request = refl; sent = refl; to-binds = refl };
   room = refl;
   exactly = record { order = refl; exact = linked-both };
+  info-octets = refl;
   asks = refl;
   granted = refl;
 }
@@ -87,4 +89,4 @@ delivers = condition3 start (meets .free) calls (meets .octets) .delivered asked
 -- Get Group Info counts the two members
 pub counts-two : memberCount (said (after start calls) (sends info reply list)) ≡ 2
 unfolding whole calls
-counts-two = condition3 start (meets .free) calls (meets .octets) .counts info reply list (meets .asks) (meets .granted)
+counts-two = condition3 start (meets .free) calls (meets .octets) .counts info reply list (meets .info-octets) (meets .asks) (meets .granted)

@@ -71,9 +71,9 @@ module _ {Meets : Contract} (right : (L : Lent) (c : Call) (a : Said) (M : Lent)
         sound = H .sound;
         delivered = λ {m} {r} {l} x q e us u. answer-of (right _ _ _ _ x) ∙ H .delivered m r l us q (room-before k r l e) u;
         linked-units = H .linked-units;
-        counts = λ {m} {r} {l} x c g.
+        counts = λ {m} {r} {l} x o c g.
             let w = right _ _ _ _ x in
-            ap memberCount (w .told) ∙ H .counts m r l c (ap (granted (sends m r l)) (sym (w .told)) ∙ g);
+            ap memberCount (w .told) ∙ H .counts m r l o c (ap (granted (sends m r l)) (sym (w .told)) ∙ g);
       }
 
   -- condition 3 of what was seen

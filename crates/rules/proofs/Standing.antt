@@ -13,6 +13,10 @@ pub data Says (k : ℕ) : Change → Entry → Type 0 where
   says-added : {r : Rec} → Says k (store r) (adds r)
   says-withdrawn : {q w : Rec → Bool} → ((r : Rec) → shaped k r ≡ true → q r ≡ w r) → Says k (wipe q) (withdraws w)
 
+-- a record stored is the one added
+pub says-stored : {k : ℕ} {r x : Rec} → r ≡ x → Says k (store r) (adds x)
+says-stored e = rw e says-added
+
 -- the used records of t are those of l, each as often, in whatever order: no test can tell them apart by counting
 unfoldable pub Agree : List Rec → List Rec → Type 0
 Agree t l = (p : Rec → Bool) → count p (used t) ≡ count p l

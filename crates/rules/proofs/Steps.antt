@@ -91,7 +91,7 @@ module _ (L : Lent) (k : Command) (p : List ℕ) (c : Code) (h : c ≡ ok → Gr
       step true e = h (ap code (eqb-true (c .0) (ok .0) e)) .told
       step false e = told-nothing
 
-octets-payload : (m : List ℕ) → octetString m ≡ true → octetString (payload m) ≡ true
+pub octets-payload : (m : List ℕ) → octetString m ≡ true → octetString (payload m) ≡ true
 unfolding octetString payload
 octets-payload m o = all-drop _ headerLength m o
 

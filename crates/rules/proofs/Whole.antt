@@ -39,7 +39,7 @@ unfolding tables.written
 of-tables-2 = 0
 
 unfoldable of-layout : ℕ
-unfolding layout.deviceRecord layout.partIs layout.toGroup layout.groupRecord
+unfolding layout.deviceRecord layout.partIs layout.toGroup layout.groupRecord layout.memberRecord
 of-layout = 0
 
 unfoldable of-frame : ℕ
@@ -107,8 +107,12 @@ unfolding history.asked history.entries history.stand history.standing history.s
 of-history-2 = 0
 
 unfoldable of-history-3 : ℕ
-unfolding history.existing history.memberCount history.freeTable history.freeTables
+unfolding history.existing history.memberCount history.freeTable history.freeTables history.bindSaid history.bindNamed history.groupSaid
 of-history-3 = 0
+
+unfoldable of-history-4 : ℕ
+unfolding history.memberSaid history.memberNamed history.madeFor
+of-history-4 = 0
 
 unfoldable tables-and-messages : ℕ
 unfolding of-lists of-octets of-units of-tables of-tables-2 of-layout of-frame of-message of-message-2 of-exists of-sound
@@ -119,5 +123,5 @@ unfolding of-sound-2 of-recipients of-payloads of-commands of-commands-2 of-copy
 commands-and-calls = 0
 
 unfoldable pub whole : ℕ
-unfolding list.flatMap tables-and-messages commands-and-calls of-host of-calls of-calls-2 of-history of-history-2 of-history-3
+unfolding list.flatMap tables-and-messages commands-and-calls of-host of-calls of-calls-2 of-history of-history-2 of-history-3 of-history-4
 whole = 0

@@ -14,6 +14,10 @@ use Rattle.rules.proofs.Lists.{and-parts, split, same-truth}
 unfoldable pub shaped : ℕ → Rec → Bool
 shaped k r = eqb (length r) k & octetString r
 
+pub shaped-octets : (k : ℕ) (r : Rec) → shaped k r ≡ true → octetString r ≡ true
+unfolding shaped
+shaped-octets k r h = split h .1
+
 pub octet-small : (s : List ℕ) (i : ℕ) → octetString s ≡ true → octet i s ≤ 255
 unfolding octetString all
 octet-small [] i h = omega arith
@@ -102,9 +106,14 @@ module _ (n w : ℕ) (small : n < 32768) (word-small : w < 65536) where
           let q = eqb-true (w % 32768) n a.1 in
           eq-eqb w n (omega (arith, p))
 
+-- a word has 16 bits
+
+pub octets-below : (s : List ℕ) (i : ℕ) → octetString s ≡ true → word i s < 65536
+unfolding word
+octets-below s i h = omega (arith, octet-small s i h, octet-small s (i + 1) h)
+
 pub word-below : (k i : ℕ) (r : Rec) → shaped k r ≡ true → word i r < 65536
-unfolding shaped word
-word-below k i r h = let s = split h .1 in omega (arith, octet-small r i s, octet-small r (i + 1) s)
+word-below k i r h = octets-below r i (shaped-octets k r h)
 
 -- the run that Delete Group looks for is a bind to that group
 pub to-group : (g : GroupAddress) (b : Rec) → g .0 < 32768 → shaped (size Binds) b ≡ true → toThisGroup g b ≡ (toGroup b & eqb (boundGroup b .0) (g .0))

@@ -1,22 +1,23 @@
 -- Condition 3's words, read from the calls and their answers alone: a run, its history, what stands, what is linked, what is counted.
 -- Nothing here looks into a table, and nothing of what a call does to a table is used to say what it adds or withdraws.
 use Rattle.words.specs.Basics.{_≡_, Bool, true, false, cond, not, _||_, List, [], _∷_, _++_, ℕ, _+_, eqb, leb, drop}
-use Rattle.words.specs.Names.{concentrator, ok, headerLength}
+use Rattle.words.specs.Names.{concentrator, device, group, ok, headerLength}
+use Rattle.words.specs.declared.BindPart.the-variants.{Whole, Source, SourceUnit, Destination, DestinationUnit}
 use Rattle.words.specs.Outcomes.{numberOf}
 use Rattle.words.specs.declared.Decoded.the-variants.{Is, NotServed}
-use Rattle.rules.specs.Types.{DeviceAddress, GroupAddress, Fields, BindAddress, Command, AddBind, RemoveBinds, CreateGroup, DeleteGroup, AddToGroup}
-use Rattle.rules.specs.Types.{RemoveFromGroup, GetGroupInfo, Decoded, Kind, Devices, Binds, Groups, Members, Outcome}
+use Rattle.rules.specs.Types.{DeviceAddress, GroupAddress, Fields, BindAddress, BindPart, Command, AddBind, RemoveBinds, CreateGroup, DeleteGroup}
+use Rattle.rules.specs.Types.{AddToGroup, RemoveFromGroup, GetGroupInfo, Decoded, Kind, Devices, Binds, Groups, Members, Outcome}
 use Rattle.rules.specs.Lists.{count, any, all, keep, has, _&_}
-use Rattle.rules.specs.Octets.{octet, word, octetString}
+use Rattle.rules.specs.Octets.{octet, word, octets, number, joined, octetString}
 use Rattle.rules.specs.Units.{rising}
-use Rattle.rules.specs.Tables.{Rec, free?, matches}
-use Rattle.rules.specs.Layout.{deviceAddress, deviceHighest, deviceRecord, bindSource, partIs, toGroup, boundGroup, boundDevice, bindTo}
-use Rattle.rules.specs.Layout.{memberGroup, memberDevice, memberNumber}
+use Rattle.rules.specs.Tables.{Rec, free?}
+use Rattle.rules.specs.Layout.{addressLength, deviceAddress, deviceHighest, deviceRecord, bindSource, bindSourceUnit, bindFrom, bindInterface}
+use Rattle.rules.specs.Layout.{bindDestination, bindUnit, toGroup, boundGroup, boundDevice, bindTo, memberGroup, memberDevice, memberUnit}
+use Rattle.rules.specs.Layout.{memberNumber, memberRecord}
 use Rattle.rules.specs.Frame.{Lent, lentOf, everyTable, also, table}
 use Rattle.rules.specs.Message.{fields, payload, sender, destination, response, lengthFits, dataLengthFits, typeFits}
 use Rattle.rules.specs.Sound.{wholeRecords, sound}
-use Rattle.rules.specs.Recipients.{bindMatches}
-use Rattle.rules.specs.Payloads.{command, bindOf, wanted, memberOf, groupNamed}
+use Rattle.rules.specs.Payloads.{command}
 use Rattle.rules.specs.Host.{admit, release}
 use Rattle.rules.specs.Calls.{roomy, message, forwarded}
 
@@ -93,16 +94,47 @@ Entries = Kind → Entry
 unfoldable pub silence : Entries
 silence k = silent
 
+-- The payload of a command, told in numbers: an address has 15 bits, and no bit beside them counts.
+
+-- the bind of Add Bind: its source's number, and all that follows as it came
+unfoldable pub bindSaid : List ℕ → Rec
+bindSaid p = octets (number (bindSource p .0)) ++ drop addressLength p
+
+-- does a Remove command with this payload name the bind? Payloads by source begin as a bind does; those by destination have its octets 6-8.
+unfoldable pub bindNamed : BindPart → List ℕ → Rec → Bool
+bindNamed Whole p b =
+    eqb (bindSource b .0) (number (bindSource p .0))
+    & eqb (bindSourceUnit b) (bindSourceUnit p)
+    & eqb (bindInterface b) (bindInterface p)
+    & eqb (bindDestination b) (bindDestination p)
+    & eqb (bindUnit b) (bindUnit p)
+bindNamed Source p b = eqb (bindSource b .0) (number (bindSource p .0))
+bindNamed SourceUnit p b = eqb (bindSource b .0) (number (bindSource p .0)) & eqb (bindSourceUnit b) (bindSourceUnit p)
+bindNamed Destination p b = eqb (bindDestination b) (word 0 p)
+bindNamed DestinationUnit p b = eqb (bindDestination b) (word 0 p) & eqb (bindUnit b) (octet 2 p)
+
+-- the group of Delete Group and Get Group Info
+unfoldable pub groupSaid : List ℕ → GroupAddress
+groupSaid p = group (number (word 0 p))
+
+-- the member of Add to Group and Remove from Group
+unfoldable pub memberSaid : List ℕ → Rec
+memberSaid p = memberRecord (group (number (memberGroup p .0))) (device (number (memberDevice p .0))) (memberUnit p)
+
+unfoldable pub memberNamed : List ℕ → Rec → Bool
+memberNamed p x =
+    eqb (memberGroup x .0) (number (memberGroup p .0)) & eqb (memberDevice x .0) (number (memberDevice p .0)) & eqb (memberUnit x) (memberUnit p)
+
 -- a command, by its payload
 unfoldable pub lines : Command → List ℕ → Entries
-lines AddBind p = also Binds (adds (bindOf p)) silence
-lines (RemoveBinds q) p = also Binds (withdraws (partIs q (wanted q p))) silence
+lines AddBind p = also Binds (adds (bindSaid p)) silence
+lines (RemoveBinds q) p = also Binds (withdraws (bindNamed q p)) silence
 lines CreateGroup p = silence
 lines DeleteGroup p =
-    also Members (withdraws (λ x. eqb (memberGroup x .0) (groupNamed p .0)))
-    (also Binds (withdraws (λ b. toGroup b & eqb (boundGroup b .0) (groupNamed p .0))) silence)
-lines AddToGroup p = also Members (adds (memberOf p)) silence
-lines RemoveFromGroup p = also Members (withdraws (matches 0 (memberOf p))) silence
+    also Members (withdraws (λ x. eqb (memberGroup x .0) (groupSaid p .0)))
+    (also Binds (withdraws (λ b. toGroup b & eqb (boundGroup b .0) (groupSaid p .0))) silence)
+lines AddToGroup p = also Members (adds (memberSaid p)) silence
+lines RemoveFromGroup p = also Members (withdraws (memberNamed p)) silence
 lines GetGroupInfo p = silence
 
 unfoldable pub asked : Decoded → List ℕ → Entries
@@ -154,9 +186,13 @@ unfoldable pub reaches : List Rec → ℕ → Rec → Bool
 reaches ms u b =
     cond (toGroup b) (any (λ x. eqb (memberGroup x .0) (boundGroup b .0) & eqb (memberNumber x) u) ms) (eqb (bindTo b) u)
 
--- is the unit u linked to the sender of a message of these fields, at its interface and role?
+-- was the bind made for the sender of a message of these fields, at its interface and role? Each of the two is one number.
+unfoldable pub madeFor : Fields → Rec → Bool
+madeFor f b = eqb (bindFrom b) (sender f) & eqb (bindInterface b) (joined (f .«interface_type») (f .uid))
+
+-- is the unit u linked to that sender?
 unfoldable pub linked : List Event → Fields → ℕ → Bool
-linked h f u = any (λ b. bindMatches f b & reaches (standing Members h) u b) (standing Binds h)
+linked h f u = any (λ b. madeFor f b & reaches (standing Members h) u b) (standing Binds h)
 
 -- the additions to the group less those withdrawn
 unfoldable pub counted : List Event → GroupAddress → ℕ
@@ -171,6 +207,7 @@ existing h d u =
 -- a well-formed request from an existing unit to the bind address
 pub record Request (h : List Event) (m : List ℕ) : Type 0 where
   -- it can be read, and is no response
+  pub octets : octetString m ≡ true
   pub length : lengthFits m ≡ true
   pub data-length : dataLengthFits m ≡ true
   pub type : typeFits m ≡ true
@@ -205,10 +242,11 @@ pub record Holds (L : Lent) (cs : List Call) : Type 0 where
   pub delivered : (m r l us : List ℕ) → Request (history L cs) m → roomy (L .binds) (L .members) r l ≡ true → Exactly (history L cs) (fields m) us
       → message (after L cs) m r l ≡ forwarded us (after L cs) r l
   -- there is such a list
-  pub linked-units : (f : Fields) → (us : List ℕ) × Exactly (history L cs) f us
+  pub linked-units : (m : List ℕ) → octetString m ≡ true → (us : List ℕ) × Exactly (history L cs) (fields m) us
   -- the count of Get Group Info is the history's
-  pub counts : (m r l : List ℕ) → command (fields m) ≡ Is GetGroupInfo → granted (sends m r l) (said (after L cs) (sends m r l)) ≡ true
-      → memberCount (said (after L cs) (sends m r l)) ≡ counted (history L cs) (groupNamed (payload m))
+  pub counts : (m r l : List ℕ) → octetString m ≡ true → command (fields m) ≡ Is GetGroupInfo
+      → granted (sends m r l) (said (after L cs) (sends m r l)) ≡ true
+      → memberCount (said (after L cs) (sends m r l)) ≡ counted (history L cs) (groupSaid (payload m))
 
 abbrev pub Condition3 : Type 0
 Condition3 = (L : Lent) → freeTables L ≡ true → (cs : List Call) → all octetsOnly cs ≡ true → Holds L cs

@@ -87,13 +87,16 @@ bindSourceUnit b = octet 2 b
 abbrev pub bindFrom : Rec → ℕ
 bindFrom b = unitAt 0 b
 
--- interface type and UID of the destination's interface
+-- interface type and UID of the destination's interface, as one number and each
+
+abbrev pub bindInterface : Rec → ℕ
+bindInterface b = word 3 b
 
 abbrev pub bindRole : Rec → ℕ
-bindRole b = flag (word 3 b)
+bindRole b = flag (bindInterface b)
 
 abbrev pub bindUid : Rec → ℕ
-bindUid b = number (word 3 b)
+bindUid b = number (bindInterface b)
 
 -- address type and address
 abbrev pub bindDestination : Rec → ℕ
@@ -163,6 +166,9 @@ memberUnit m = octet 4 m
 -- the member as one number
 abbrev pub memberNumber : Rec → ℕ
 memberNumber m = unitAt 2 m
+
+unfoldable pub memberRecord : GroupAddress → DeviceAddress → ℕ → Rec
+memberRecord g d u = octets (g .0) ++ octets (d .0) ++ u ∷ []
 
 -- members of a group, and members that are units of a device
 

@@ -2,14 +2,15 @@
 -- of what was told, of the tables as they now are, and of the contract of one more call.
 use Rattle.words.specs.Basics.{_≡_, true, List, [], _∷_, map, ℕ}
 use Rattle.words.specs.declared.Decoded.the-variants.{Is}
-use Rattle.rules.specs.Types.{Fields, GetGroupInfo}
+use Rattle.rules.specs.Types.{GetGroupInfo}
+use Rattle.rules.specs.Octets.{octetString}
 use Rattle.rules.specs.Frame.{Lent}
 use Rattle.rules.specs.Message.{fields, payload}
 use Rattle.rules.specs.Sound.{sound}
-use Rattle.rules.specs.Payloads.{command, groupNamed}
+use Rattle.rules.specs.Payloads.{command}
 use Rattle.rules.specs.Host.{HostAnswer}
 use Rattle.rules.specs.Calls.{roomy, Answer, answer, forwarded}
-use Rattle.rules.specs.History.{Call, sends, Said, Event, granted, counted, Request, Exactly, memberCount}
+use Rattle.rules.specs.History.{Call, sends, Said, Event, granted, groupSaid, counted, Request, Exactly, memberCount}
 
 -- what it is to meet a contract: the call, made on the tables L, told its caller a, and left the tables M
 abbrev pub Contract : Type 1
@@ -40,7 +41,7 @@ pub record SeenHolds (Meets : Contract) (h : List Event) (L : Lent) : Type 0 whe
   pub delivered : {m r l : List ℕ} {a : Said} {M : Lent} → Meets L (sends m r l) a M → Request h m → roomy (L .binds) (L .members) r l ≡ true
       → (us : List ℕ) → Exactly h (fields m) us → answer (a .outcome) M (a .reply) (a .list) ≡ forwarded us L r l
   -- there is such a list
-  pub linked-units : (f : Fields) → (us : List ℕ) × Exactly h f us
+  pub linked-units : (m : List ℕ) → octetString m ≡ true → (us : List ℕ) × Exactly h (fields m) us
   -- one more message, Get Group Info and granted, is told the number of members by what was seen
-  pub counts : {m r l : List ℕ} {a : Said} {M : Lent} → Meets L (sends m r l) a M → command (fields m) ≡ Is GetGroupInfo → granted (sends m r l) a ≡ true
-      → memberCount a ≡ counted h (groupNamed (payload m))
+  pub counts : {m r l : List ℕ} {a : Said} {M : Lent} → Meets L (sends m r l) a M → octetString m ≡ true → command (fields m) ≡ Is GetGroupInfo
+      → granted (sends m r l) a ≡ true → memberCount a ≡ counted h (groupSaid (payload m))

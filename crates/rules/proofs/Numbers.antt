@@ -1,0 +1,235 @@
+-- What is sent as octets, told in numbers: the runs that a removal looks for, the records that an addition stores, and the binds that a message matches.
+-- The tables compare octets and fields, the history numbers; on octets these are the same.
+use native.Mathlib.Numerals.{add-one}
+use Rattle.words.specs.Basics.{_≡_, refl, sym, ap, _∙_, Bool, true, false, _&&_, List, [], _∷_, _++_, ℕ, zero, suc, _+_, _*_, _/_, _%_, _<_, _≤_, arith, eqb}
+use Rattle.words.specs.Basics.{length, drop, drop-cons, drop-drop, drop-of-length-le, eq-eqb, eqb-true}
+use Rattle.words.specs.Names.{group}
+use Rattle.words.specs.declared.BindPart.the-variants.{Whole, Source, SourceUnit, Destination, DestinationUnit}
+use Rattle.rules.specs.Types.{BindPart, Binds, Members}
+use Rattle.rules.specs.Lists.{_&_}
+use Rattle.rules.specs.Octets.{octet, word, octets, octetString, flag, number, joined, ignoreTop, starts}
+use Rattle.rules.specs.Tables.{Rec, matches}
+use Rattle.rules.specs.Layout.{size, partIs, partLength, memberRecord}
+use Rattle.rules.specs.Units.{unitNumber, unitAt}
+use Rattle.rules.specs.Message.{fields, sender}
+use Rattle.rules.specs.Recipients.{bindMatches}
+use Rattle.rules.specs.Payloads.{bindOf, wanted, memberOf, groupNamed}
+use Rattle.rules.specs.History.{bindSaid, bindNamed, groupSaid, memberSaid, memberNamed, madeFor}
+use Rattle.rules.proofs.Lists.{and-parts, split, same-truth}
+use Rattle.rules.proofs.Words.{shaped, shaped-octets, octet-small, matches-word, octets-below, word-below}
+
+-- A run in parts
+
+starts-append : (xs ys s : List ℕ) → starts (xs ++ ys) s ≡ (starts xs s && starts ys (drop (length xs) s))
+starts-append [] ys s = refl
+starts-append (x ∷ xs) ys [] = refl
+starts-append (x ∷ xs) ys (y ∷ s) = rw (starts-append xs ys s) (turn (eqb y x) (starts xs s) (starts ys (drop (length xs) s)))
+  where
+    turn : (a b c : Bool) → (a && (b && c)) ≡ ((a && b) && c)
+    turn true b c = refl
+    turn false b c = refl
+
+matches-append : (i : ℕ) (xs ys : List ℕ) (r : Rec) → matches i (xs ++ ys) r ≡ (matches i xs r && matches (i + length xs) ys r)
+unfolding matches
+matches-append i xs ys r = rw (← drop-drop (length xs) i r) (starts-append xs ys (drop i r))
+
+-- one octet
+matches-octet : (i o : ℕ) (r : Rec) → i < length r → matches i (o ∷ []) r ≡ eqb (octet i r) o
+unfolding matches
+matches-octet i o r l = rw (drop-cons r i 0 l) (last (eqb (octet i r) o))
+  where
+    last : (a : Bool) → (a && true) ≡ a
+    last true = refl
+    last false = refl
+
+-- Octets of a payload
+
+module _ (p : List ℕ) (small : octetString p ≡ true) where
+  -- two octets are those of their word
+  two-octets : (i : ℕ) → i + 2 ≤ length p → drop i p ≡ octets (word i p) ++ drop (i + 2) p
+  unfolding octets word
+  two-octets i l =
+      let a = octet-small p i small in
+      let b = octet-small p (suc i) small in
+      let x : (octet i p * 256 + octet (suc i) p) / 256 ≡ octet i p = omega arith in
+      let y : (octet i p * 256 + octet (suc i) p) % 256 ≡ octet (suc i) p = omega arith in
+      rw (← drop-drop 2 i p, drop-cons p i 0 (omega arith), drop-cons p (suc i) 0 (omega arith), add-one i, x, y) refl
+
+  one-octet : (i : ℕ) → i < length p → drop i p ≡ octet i p ∷ drop (suc i) p
+  one-octet i l = drop-cons p i 0 l
+
+  -- .. and without their top bit those of its number
+  top-ignored : 2 ≤ length p → ignoreTop p ≡ octets (number (word 0 p)) ++ drop 2 p
+  unfolding ignoreTop octets number word
+  top-ignored l = step p small l
+    where
+      step : (p : List ℕ) → octetString p ≡ true → 2 ≤ length p → ignoreTop p ≡ octets (number (word 0 p)) ++ drop 2 p
+      step [] o l = absurd (omega arith)
+      step (x ∷ []) o l = absurd (omega arith)
+      step (x ∷ y ∷ s) o l =
+          let a = octet-small (x ∷ y ∷ s) 0 o in
+          let b = octet-small (x ∷ y ∷ s) 1 o in
+          let e : (x * 256 + y) % 32768 / 256 ≡ x % 128 = omega arith in
+          let f : (x * 256 + y) % 32768 % 256 ≡ y = omega arith in
+          rw (e, f) refl
+
+  nothing-left : (i : ℕ) → length p ≤ i → drop i p ≡ []
+  nothing-left i l = drop-of-length-le p l
+
+-- The bind, the group and the member that a payload says
+
+pub bind-said : (p : List ℕ) → octetString p ≡ true → length p ≡ size Binds → bindOf p ≡ bindSaid p
+unfolding bindOf bindSaid
+bind-said p o l = top-ignored p o (omega arith)
+
+pub group-said : (p : List ℕ) → octetString p ≡ true → groupNamed p ≡ groupSaid p
+unfolding groupNamed groupSaid word number ignoreTop
+group-said [] o = refl
+group-said (x ∷ []) o = ap group (omega arith)
+group-said (x ∷ y ∷ s) o = let b = octet-small (x ∷ y ∷ s) 1 o in ap group (omega arith)
+
+pub member-said : (p : List ℕ) → octetString p ≡ true → length p ≡ size Members → memberOf p ≡ memberSaid p
+unfolding memberOf memberSaid memberRecord ignoreTop octets number word
+member-said [] o l = absurd (omega arith)
+member-said (a ∷ []) o l = absurd (omega arith)
+member-said (a ∷ b ∷ []) o l = absurd (omega arith)
+member-said (a ∷ b ∷ c ∷ []) o l = absurd (omega arith)
+member-said (a ∷ b ∷ c ∷ d ∷ []) o l = absurd (omega arith)
+member-said (a ∷ b ∷ c ∷ d ∷ e ∷ f ∷ s) o l = absurd (omega arith)
+member-said (a ∷ b ∷ c ∷ d ∷ e ∷ []) o l =
+    let p : List ℕ = a ∷ b ∷ c ∷ d ∷ e ∷ [] in
+    let i = octet-small p 1 o in
+    let j = octet-small p 3 o in
+    let g : (a * 256 + b) % 32768 / 256 ≡ a % 128 = omega arith in
+    let h : (a * 256 + b) % 32768 % 256 ≡ b = omega arith in
+    let k : (c * 256 + d) % 32768 / 256 ≡ c % 128 = omega arith in
+    let n : (c * 256 + d) % 32768 % 256 ≡ d = omega arith in
+    rw (g, h, k, n) refl
+
+-- What a removal names
+
+five : (a b c d e : Bool) → (a && (b && (c && (d && e)))) ≡ ((((a && b) && c) && d) && e)
+five true true true d e = refl
+five true true false d e = refl
+five true false c d e = refl
+five false b c d e = refl
+
+-- a record of k octets whose octets from i on are a word and an octet
+unit-word : (k i w o : ℕ) (r : Rec) → i + 3 ≤ k → shaped k r ≡ true → matches i (octets w ++ o ∷ []) r ≡ (eqb (word i r) w && eqb (octet (i + 2) r) o)
+unfolding octets shaped
+unit-word k i w o r l s =
+    let n = eqb-true (length r) k (split s .0) in
+    matches-append i (octets w) (o ∷ []) r ∙ rw (matches-word k i w r (omega arith) s, matches-octet (i + 2) o r (omega arith)) refl
+
+module _ (p : List ℕ) (small : octetString p ≡ true) where
+  -- all of a bind, in parts
+  whole-bind : length p ≡ size Binds
+      → ignoreTop p ≡ octets (number (word 0 p)) ++ (octet 2 p ∷ []) ++ octets (word 3 p) ++ octets (word 5 p) ++ octet 7 p ∷ []
+  unfolding octets
+  whole-bind l =
+      rw (
+        top-ignored p small (omega arith),
+        one-octet p small 2 (omega arith),
+        two-octets p small 3 (omega arith),
+        two-octets p small 5 (omega arith),
+        one-octet p small 7 (omega arith),
+        nothing-left p small 8 (omega arith),
+      ) refl
+
+  -- an address with its flag, and with a unit behind it
+
+  flagged : length p ≡ 2 → p ≡ octets (word 0 p)
+  unfolding octets
+  flagged l = two-octets p small 0 (omega arith) ∙ rw (nothing-left p small 2 (omega arith)) refl
+
+  flagged-unit : length p ≡ 3 → p ≡ octets (word 0 p) ++ octet 2 p ∷ []
+  unfolding octets
+  flagged-unit l = two-octets p small 0 (omega arith) ∙ rw (one-octet p small 2 (omega arith), nothing-left p small 3 (omega arith)) refl
+
+  pub bind-named : (q : BindPart) → length p ≡ partLength q → (b : Rec) → shaped (size Binds) b ≡ true → partIs q (wanted q p) b ≡ bindNamed q p b
+  unfolding partIs wanted bindNamed _&_ octets shaped
+  bind-named Whole l b s =
+      let n = eqb-true (length b) 8 (split s .0) in
+      let unit : List ℕ = octet 2 p ∷ [] in
+      let end : List ℕ = octet 7 p ∷ [] in
+      ap (λ w. matches 0 w b) (whole-bind l)
+      ∙ matches-append 0 (octets (number (word 0 p))) (unit ++ octets (word 3 p) ++ octets (word 5 p) ++ end) b
+      ∙ rw (
+        matches-append 2 unit (octets (word 3 p) ++ octets (word 5 p) ++ end) b,
+        matches-append 3 (octets (word 3 p)) (octets (word 5 p) ++ end) b,
+        matches-append 5 (octets (word 5 p)) end b,
+        matches-word 8 0 (number (word 0 p)) b (omega arith) s,
+        matches-octet 2 (octet 2 p) b (omega arith),
+        matches-word 8 3 (word 3 p) b (omega arith) s,
+        matches-word 8 5 (word 5 p) b (omega arith) s,
+        matches-octet 7 (octet 7 p) b (omega arith),
+      )
+      (five (eqb (word 0 b) (number (word 0 p))) (eqb (octet 2 b) (octet 2 p)) (eqb (word 3 b) (word 3 p)) (eqb (word 5 b) (word 5 p))
+      (eqb (octet 7 b) (octet 7 p)))
+  bind-named Source l b s =
+      rw (top-ignored p small (omega arith), nothing-left p small 2 (omega arith)) (matches-word 8 0 (number (word 0 p)) b (omega arith) s)
+  bind-named SourceUnit l b s =
+      rw (top-ignored p small (omega arith), one-octet p small 2 (omega arith), nothing-left p small 3 (omega arith))
+      (unit-word 8 0 (number (word 0 p)) (octet 2 p) b (omega arith) s)
+  bind-named Destination l b s = ap (λ w. matches 5 w b) (flagged l) ∙ matches-word 8 5 (word 0 p) b (omega arith) s
+  bind-named DestinationUnit l b s = ap (λ w. matches 5 w b) (flagged-unit l) ∙ unit-word 8 5 (word 0 p) (octet 2 p) b (omega arith) s
+
+  pub member-named : length p ≡ size Members → (x : Rec) → shaped (size Members) x ≡ true → matches 0 (memberOf p) x ≡ memberNamed p x
+  unfolding memberNamed memberSaid memberRecord _&_ octets
+  member-named l x s =
+      ap (λ w. matches 0 w x) (member-said p small l)
+      ∙ matches-append 0 (octets (number (word 0 p))) (octets (number (word 2 p)) ++ octet 4 p ∷ []) x
+      ∙ rw (matches-word 5 0 (number (word 0 p)) x (omega arith) s, unit-word 5 2 (number (word 2 p)) (octet 4 p) x (omega arith) s)
+      (three (eqb (word 0 x) (number (word 0 p))) (eqb (word 2 x) (number (word 2 p))) (eqb (octet 4 x) (octet 4 p)))
+    where
+      three : (a b c : Bool) → (a && (b && c)) ≡ ((a && b) && c)
+      three true b c = refl
+      three false b c = refl
+
+-- The binds that a message matches
+
+-- a unit is one number, and an interface with its role is one
+one-number : (a b c d : ℕ) → b ≤ 255 → d ≤ 255 → (eqb a c && eqb b d) ≡ eqb (a * 256 + b) (c * 256 + d)
+one-number a b c d k l = same-truth _ _ forth back
+  where
+    forth : (eqb a c && eqb b d) ≡ true → eqb (a * 256 + b) (c * 256 + d) ≡ true
+    forth e =
+        let x = and-parts (eqb a c) (eqb b d) e in
+        let y = eqb-true a c x.0 in
+        let z = eqb-true b d x.1 in
+        eq-eqb (a * 256 + b) (c * 256 + d) (omega arith)
+
+    back : eqb (a * 256 + b) (c * 256 + d) ≡ true → (eqb a c && eqb b d) ≡ true
+    back e = let x = eqb-true (a * 256 + b) (c * 256 + d) e in rw (eq-eqb a c (omega arith), eq-eqb b d (omega arith))
+
+flag-and-number : (v w : ℕ) → v < 65536 → w < 65536 → (eqb (number v) (number w) && eqb (flag v) (flag w)) ≡ eqb v (joined (flag w) (number w))
+unfolding number flag joined
+flag-and-number v w k l = same-truth _ _ forth back
+  where
+    forth : (eqb (v % 32768) (w % 32768) && eqb (v / 32768 % 2) (w / 32768 % 2)) ≡ true → eqb v (w / 32768 % 2 * 32768 + w % 32768) ≡ true
+    forth e =
+        let x = and-parts (eqb (v % 32768) (w % 32768)) (eqb (v / 32768 % 2) (w / 32768 % 2)) e in
+        let y = eqb-true (v % 32768) (w % 32768) x.0 in
+        let z = eqb-true (v / 32768 % 2) (w / 32768 % 2) x.1 in
+        eq-eqb v (w / 32768 % 2 * 32768 + w % 32768) (omega arith)
+
+    back : eqb v (w / 32768 % 2 * 32768 + w % 32768) ≡ true → (eqb (v % 32768) (w % 32768) && eqb (v / 32768 % 2) (w / 32768 % 2)) ≡ true
+    back e =
+        let x = eqb-true v (w / 32768 % 2 * 32768 + w % 32768) e in
+        rw (eq-eqb (v % 32768) (w % 32768) (omega arith), eq-eqb (v / 32768 % 2) (w / 32768 % 2) (omega arith))
+
+pub made-for : (m : List ℕ) → octetString m ≡ true → (b : Rec) → shaped (size Binds) b ≡ true → bindMatches (fields m) b ≡ madeFor (fields m) b
+unfolding bindMatches madeFor fields sender unitNumber unitAt _&_
+made-for m o b s =
+    let t = shaped-octets 8 b s in
+    rw (
+      ← one-number (word 0 b) (octet 2 b) (number (word 0 m)) (octet 2 m) (octet-small b 2 t) (octet-small m 2 o),
+      ← flag-and-number (word 3 b) (word 10 m) (word-below 8 3 b s) (octets-below m 10 o),
+    )
+    (four (eqb (word 0 b) (number (word 0 m))) (eqb (octet 2 b) (octet 2 m)) (eqb (number (word 3 b)) (number (word 10 m)))
+    (eqb (flag (word 3 b)) (flag (word 10 m))))
+  where
+    four : (a b c d : Bool) → (((a && b) && c) && d) ≡ ((a && b) && (c && d))
+    four true true c d = refl
+    four true false c d = refl
+    four false b c d = refl
