@@ -41,11 +41,11 @@ unreadable =
 abbrev pub sources : List (Row Sent Told)
 sources = map (λ from. refused (from-it from) 13) (run 3 0x00_06_00 ∷ run 3 0x00_03_03 ∷ run 3 0x00_00_01 ∷ run 3 0x7F_FF_FF ∷ [])
 
--- 14: no such device, unit, unit of the concentrator; D'7FFF with another unit; no such group, G'0000, and G'7FFF with unit 0xFF
+-- 14: no such device, unit, unit of the concentrator; D'7FFF with another unit; no such group, G'0000 with unit 0, G'7FFF with unit 0xFF
 abbrev pub destinations : List (Row Sent Told)
 destinations =
     map (λ to. refused (to-it to) 14)
-    (run 3 0x00_06_00 ∷ run 3 0x00_05_02 ∷ run 3 0x00_00_01 ∷ run 3 0x7F_FF_00 ∷ run 3 0x80_03_FF ∷ run 3 0x80_00_FF ∷ run 3 0xFF_FF_FF ∷ [])
+    (run 3 0x00_06_00 ∷ run 3 0x00_05_02 ∷ run 3 0x00_00_01 ∷ run 3 0x7F_FF_00 ∷ run 3 0x80_03_FF ∷ run 3 0x80_00_00 ∷ run 3 0xFF_FF_FF ∷ [])
 
 -- 15: each response type to the bind address; to a group, and to one that does not exist
 abbrev pub responses-to-many : List (Row Sent Told)

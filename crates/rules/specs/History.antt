@@ -1,5 +1,6 @@
 -- Condition 3's words, read from the calls and their answers alone: a run, its history, what stands, what is linked, what is counted.
--- Nothing here looks into a table, and nothing of what a call does to a table is used to say what it adds or withdraws.
+-- Nothing here looks into a table, and nothing of what a call does to a table is used to say what it adds or withdraws: a payload is told in numbers here,
+-- where the tables compare octets. A message's fields and command, and the places of a record's fields, are those of condition 2 (docs/DECISIONS.md, 20).
 use Rattle.words.specs.Basics.{_≡_, Bool, true, false, cond, not, _||_, List, [], _∷_, _++_, ℕ, _+_, eqb, leb, drop}
 use Rattle.words.specs.Names.{concentrator, device, group, ok, headerLength}
 use Rattle.words.specs.declared.BindPart.the-variants.{Whole, Source, SourceUnit, Destination, DestinationUnit}

@@ -97,7 +97,7 @@ bindManagement = 0x0002
 abbrev pub groupManagement : ℕ
 groupManagement = 0x0003
 
--- members of Bind Management (document 000, 6.2.5.1 to 6.2.5.6)
+-- members of Bind Management (document 000, 6.2.5.1 to 6.2.5.6), numbered as their sections follow each other: docs/DECISIONS.md, 1
 
 abbrev pub addBind : ℕ
 addBind = 0x01
@@ -117,7 +117,7 @@ removeByDestination = 0x05
 abbrev pub removeByDestinationUnit : ℕ
 removeByDestinationUnit = 0x06
 
--- members of Group Management (document 000, 6.3.5.1 to 6.3.5.5)
+-- members of Group Management (document 000, 6.3.5.1 to 6.3.5.5), numbered likewise
 
 abbrev pub createGroup : ℕ
 createGroup = 0x01
