@@ -8,14 +8,12 @@ use Rattle.rules.proofs.RowsOfRefusals as refusals
 use Rattle.rules.proofs.RowsOfTables as unsound
 use Rattle.rules.proofs.RowsOfCommands as commands
 use Rattle.rules.proofs.RowsOfCalls as calls
-use Rattle.rules.proofs.Samples.{Row, row, AsTold, run, lending, filled, named, threeMembers, holding, three-one, four-one, to-group-one, curtains}
-use Rattle.rules.proofs.Samples.{bindManagement, letter, request, Sent, Told, told, answerTo, reply}
+use Rattle.rules.proofs.Samples.{Row, row, AsTold, run, lending, filled, device-table, D3, D4, D5, named, threeMembers, holding, three-one, four-one}
+use Rattle.rules.proofs.Samples.{to-group-one, curtains, bindManagement, letter, request, Sent, Told, told, answerTo, reply}
 
 -- devices 3 (rights 1, highest 2), 4 (0, 2), 5 (0, 1); group 1 named "S"; members 5:01, 4:02, 3:01 in that order; these binds
 abbrev start : List ℕ → Lent
-start bs =
-    holding (filled 256 (run 4 0x00_03_01_02 ++ run 4 0x00_04_00_02 ++ run 4 0x00_05_00_01)) (filled 512 bs) (filled 256 (named 1 (0x53 ∷ [])))
-    (filled 640 threeMembers)
+start bs = holding (device-table 64 (D3 ++ D4 ++ D5)) (filled 512 bs) (filled 256 (named 1 (0x53 ∷ []))) (filled 640 threeMembers)
 
 abbrev list : List ℕ
 list = lending 579 []

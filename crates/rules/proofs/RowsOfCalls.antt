@@ -7,7 +7,7 @@ use Rattle.rules.specs.Frame.{Lent}
 use Rattle.rules.specs.Message.{reading}
 use Rattle.rules.specs.Copy.{CopyAnswer, copy}
 use Rattle.rules.specs.Host.{HostAnswer, admit, release}
-use Rattle.rules.proofs.Samples.{Row, row, run, lending, filled, groups, members, holding, house}
+use Rattle.rules.proofs.Samples.{Row, row, run, lending, filled, known, device-table, D1, D3, D4, D5, groups, members, holding, house}
 
 -- a message with every reserved bit set, transport 0xAA 0xBB, and three octets of payload
 abbrev full : List ℕ
@@ -149,11 +149,11 @@ plain = house []
 
 -- the devices of the house without the free record
 abbrev four-devices : List ℕ
-four-devices = run 16 0x00_01_00_01_00_03_01_02_00_04_00_02_00_05_00_01
+four-devices = D1 ++ D3 ++ D4 ++ D5
 
 -- .. and this one
-abbrev admits : ℕ → ℕ → ℕ → ℕ → Row Admitting Hosted
-admits d r h stored = row (admitting plain d r h) (hosted 0 (holding (four-devices ++ run 4 stored) (filled 48 []) groups members))
+abbrev admits : ℕ → ℕ → ℕ → Row Admitting Hosted
+admits d r h = row (admitting plain d r h) (hosted 0 (holding (four-devices ++ known d r h) (filled 48 []) groups members))
 
 abbrev not-admitted : Lent → ℕ → ℕ → ℕ → ℕ → Row Admitting Hosted
 not-admitted L d r h o = row (admitting L d r h) (hosted o L)
@@ -168,9 +168,9 @@ unsound = holding (four-devices ++ 0xFF ∷ []) [] groups members
 
 abbrev pub admissions : List (Row Admitting Hosted)
 admissions =
-    admits 6 0 2 0x00_06_00_02
-    ∷ admits 2 1 0 0x00_02_01_00
-    ∷ admits 0x7FFE 0 254 0x7F_FE_00_FE
+    admits 6 0 2
+    ∷ admits 2 1 0
+    ∷ admits 0x7FFE 0 254
     -- 20: D'0000, D'7FFF, the top bit; rights 2; highest unit 255
     ∷ not-admitted plain 0 1 2 20
     ∷ not-admitted plain 0x7FFF 1 2 20
@@ -220,11 +220,11 @@ bound = house (from-four ++ to-four ++ others ++ to-one)
 abbrev pub releases : List (Row Releasing Hosted)
 releases =
     row (releasing bound 4) (hosted 0 (holding
-    (run 8 0x00_01_00_01_00_03_01_02 ++ filled 4 [] ++ run 4 0x00_05_00_01 ++ filled 4 [])
+    (D1 ++ D3 ++ device-table 1 [] ++ D5 ++ device-table 1 [])
     (filled 16 [] ++ others ++ to-one ++ filled 8 []) groups
     (run 5 0x00_01_00_05_01 ++ filled 5 [] ++ run 5 0x00_01_00_03_01 ++ filled 5 [])))
     -- D'0001 goes, and G'0001, its members and the bind to it stay
-    ∷ row (releasing bound 1) (hosted 0 (holding (filled 4 [] ++ run 12 0x00_03_01_02_00_04_00_02_00_05_00_01 ++ filled 4 [])
+    ∷ row (releasing bound 1) (hosted 0 (holding (device-table 1 [] ++ D3 ++ D4 ++ D5 ++ device-table 1 [])
     (from-four ++ to-four ++ others ++ filled 16 []) groups members))
     -- 23: no such device, the concentrator, D'FFFF, which has the octets of a free record
     ∷ not-released bound 6 23

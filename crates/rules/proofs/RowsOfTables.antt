@@ -1,16 +1,16 @@
 -- Rows: tables that are not sound are refused whatever is sent (document 01, Tables: "Tables are sound if"; Outcomes, 16). Each has one fault.
 use Rattle.words.specs.Basics.{List, [], _∷_, _++_, map, ℕ, _+_, replicate}
 use Rattle.rules.specs.Frame.{Lent}
-use Rattle.rules.proofs.Samples.{Row, row, run, lending, filled, named, devices, groups, members, holding, three-one, curtains, request, Sent, Told}
-use Rattle.rules.proofs.Samples.{told, sent, reply, goes}
+use Rattle.rules.proofs.Samples.{Row, row, run, lending, filled, known, device-table, D3, D4, D5, named, devices, groups, members, holding, three-one}
+use Rattle.rules.proofs.Samples.{curtains, request, Sent, Told, told, sent, reply, goes}
 
 -- the house with one more record, or with other octets, in one table
 
 abbrev with-devices : List ℕ → Lent
 with-devices ds = holding ds [] groups members
 
-abbrev with-device : ℕ → Lent
-with-device r = with-devices (run 4 0x00_03_01_02 ++ run 4 0x00_04_00_02 ++ run 4 0x00_05_00_01 ++ run 4 r)
+abbrev with-device : ℕ → ℕ → ℕ → Lent
+with-device d rights top = with-devices (D3 ++ D4 ++ D5 ++ known d rights top)
 
 abbrev with-binds : List ℕ → Lent
 with-binds bs = holding devices bs groups members
@@ -37,7 +37,7 @@ lengths =
     ∷ with-binds (filled 9 [])
     ∷ with-groups (groups ++ 0xFF ∷ [])
     ∷ with-members (members ++ 0xFF ∷ [])
-    ∷ with-devices (filled (4 + 256) devices)
+    ∷ with-devices (device-table 65 devices)
     ∷ with-binds (filled (8 + 512) [])
     ∷ with-groups (filled (16 + 256) groups)
     ∷ with-members (filled (5 + 640) members)
@@ -47,9 +47,14 @@ lengths =
 abbrev devices-and-groups : List Lent
 devices-and-groups =
     -- a device D'0000, D'7FFF, with the top bit; rights 2; highest unit 255; D'0003 again
-    map with-device (0x00_00_01_02 ∷ 0x7F_FF_00_02 ∷ 0x80_06_00_02 ∷ 0x00_06_02_02 ∷ 0x00_06_00_FF ∷ 0x00_03_00_01 ∷ [])
+    with-device 0 1 2
+    ∷ with-device 0x7FFF 0 2
+    ∷ with-device 0x8006 0 2
+    ∷ with-device 6 2 2
+    ∷ with-device 6 0 255
+    ∷ with-device 3 0 1
     -- a group G'0000, G'7FFF; a name of 14; padding 0x01 behind a name of 12; G'0001 again
-    ++ map with-group
+    ∷ map with-group
     (named 0 [] ∷ (run 2 0x7F_FF ++ replicate 14 0x00) ∷ (run 3 0x00_02_0E ++ replicate 13 0x41) ∷ (run 3 0x00_02_0C ++ replicate 12 0x41 ++ 0x01 ∷ [])
     ∷ named 1 [] ∷ [])
 

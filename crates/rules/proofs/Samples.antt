@@ -37,8 +37,28 @@ filled n t = t ++ replicate (n - length t) 0xFF
 -- A house: devices 1 (rights 0, highest unit 1), 3 (1, 2), 4 (0, 2) and 5 (0, 1); groups 1 "S" and 2 without a name; members of group 1, by falling
 -- device. Each table has one free record.
 
+-- a device's record: address, rights, highest unit
+abbrev pub known : ℕ → ℕ → ℕ → List ℕ
+known d rights top = run 2 d ++ rights ∷ top ∷ []
+
+-- a table of n devices: these records, the others free
+abbrev pub device-table : ℕ → List ℕ → List ℕ
+device-table n ds = filled (n * 4) ds
+
+abbrev pub D1 : List ℕ
+D1 = known 1 0 1
+
+abbrev pub D3 : List ℕ
+D3 = known 3 1 2
+
+abbrev pub D4 : List ℕ
+D4 = known 4 0 2
+
+abbrev pub D5 : List ℕ
+D5 = known 5 0 1
+
 abbrev pub devices : List ℕ
-devices = filled 20 (run 4 0x00_01_00_01 ++ run 4 0x00_03_01_02 ++ run 4 0x00_04_00_02 ++ run 4 0x00_05_00_01)
+devices = device-table 5 (D1 ++ D3 ++ D4 ++ D5)
 
 -- a group's record: its address, name length and name, padded with 0x00
 abbrev pub named : ℕ → List ℕ → List ℕ

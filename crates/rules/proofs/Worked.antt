@@ -7,8 +7,8 @@ use Rattle.rules.specs.Frame.{Lent}
 use Rattle.rules.specs.Calls.{message}
 use Rattle.rules.specs.History.{Call, sends, admits, releases, said, left, after, history, granted, stand, standing, entries}
 use Rattle.rules.proofs.Whole.{whole}
-use Rattle.rules.proofs.Samples.{run, lending, filled, named, holding, three-one, concentrator, curtains, bindManagement, groupManagement, letter}
-use Rattle.rules.proofs.Samples.{request, reply}
+use Rattle.rules.proofs.Samples.{run, lending, filled, device-table, D3, D4, D5, named, holding, three-one, concentrator, curtains}
+use Rattle.rules.proofs.Samples.{bindManagement, groupManagement, letter, request, reply}
 
 -- what is known at one place of a run: the tables, and the binds and members that stand by history
 pub record Place : Type 0 where
@@ -105,15 +105,6 @@ module _ (L : Lent) where
 
 -- The run: devices 3, 4 and 5; a bind table of two records, room for one group and for two members
 
-abbrev D3 : Rec
-D3 = run 4 0x00_03_01_02
-
-abbrev D4 : Rec
-D4 = run 4 0x00_04_00_02
-
-abbrev D5 : Rec
-D5 = run 4 0x00_05_00_01
-
 abbrev S : Rec
 S = named 1 (0x53 ∷ [])
 
@@ -131,7 +122,7 @@ five = run 5 0x00_01_00_05_01
 
 -- tables that hold these octets, the other records free
 abbrev tables : List ℕ → List ℕ → List ℕ → List ℕ → Lent
-tables ds bs gs ms = holding (filled 12 ds) (filled 16 bs) (filled 16 gs) (filled 10 ms)
+tables ds bs gs ms = holding (device-table 3 ds) (filled 16 bs) (filled 16 gs) (filled 10 ms)
 
 abbrev pub start : Lent
 start = tables [] [] [] []
