@@ -2,6 +2,9 @@
 -- and those of `RowsOfDelivery`, `RowsOfRefusals`, `RowsOfTables`, `RowsOfCommands` and `RowsOfCalls`, which speak of the paper's other sentences.
 use Rattle.words.specs.Basics.{refl, List, [], _∷_, _++_, ℕ}
 use Rattle.rules.specs.Frame.{Lent}
+use Rattle.rules.specs.Message.{reading}
+use Rattle.rules.specs.Calls.{Answer}
+use Rattle.words.proofs.Apart.{readBack}
 use Rattle.rules.proofs.Whole.{whole}
 use Rattle.rules.proofs.RowsOfDelivery as delivery
 use Rattle.rules.proofs.RowsOfRefusals as refusals
@@ -9,7 +12,7 @@ use Rattle.rules.proofs.RowsOfTables as unsound
 use Rattle.rules.proofs.RowsOfCommands as commands
 use Rattle.rules.proofs.RowsOfCalls as calls
 use Rattle.rules.proofs.Samples.{Row, row, AsTold, run, lending, filled, device-table, D3, D4, D5, named, threeMembers, holding, three-one, four-one}
-use Rattle.rules.proofs.Samples.{to-group-one, curtains, bindManagement, letter, request, Sent, Told, told, answerTo, reply}
+use Rattle.rules.proofs.Samples.{to-group-one, curtains, bindManagement, letter, request, Sent, told, answerTo, reply}
 
 -- devices 3 (rights 1, highest 2), 4 (0, 2), 5 (0, 1); group 1 named "S"; members 5:01, 4:02, 3:01 in that order; these binds
 abbrev start : List ℕ → Lent
@@ -18,7 +21,7 @@ start bs = holding (device-table 64 (D3 ++ D4 ++ D5)) (filled 512 bs) (filled 25
 abbrev list : List ℕ
 list = lending 579 []
 
-abbrev starting : List ℕ → List ℕ → Told → Row Sent Told
+abbrev starting : List ℕ → List ℕ → Answer → Row Sent Answer
 starting bs m a = row (record { tables = start bs; message = m; reply = reply; list = list }) a
 
 -- a message to D'0:U'0 in free binds, and its one-octet reply
@@ -26,14 +29,14 @@ starting bs m a = row (record { tables = start bs; message = m; reply = reply; l
 abbrev adding : List ℕ → List ℕ → List ℕ
 adding from p = letter from (run 3 0x00_00_00) 0x01 bindManagement 0x01 p
 
-abbrev coded : List ℕ → List ℕ → ℕ → Told
+abbrev coded : List ℕ → List ℕ → ℕ → Answer
 coded bs to code = told 0 16 (start bs) (lending 500 (run 3 0x00_00_00 ++ to ++ run 9 0x00_00_07_03_80_02_01_00_01 ++ code ∷ [])) list
 
 -- Add Bind from 3:01: the binds before, its payload, the binds after, its code
-abbrev adds : List ℕ → List ℕ → List ℕ → ℕ → Row Sent Told
+abbrev adds : List ℕ → List ℕ → List ℕ → ℕ → Row Sent Answer
 adds before p after code = starting before (adding three-one p) (coded after three-one code)
 
-abbrev refuses : List ℕ → ℕ → Row Sent Told
+abbrev refuses : List ℕ → ℕ → Row Sent Answer
 refuses m outcome = starting [] m (told outcome 0 (start []) reply list)
 
 abbrev bind1 : List ℕ
@@ -45,7 +48,7 @@ bind2 = run 8 0x00_03_01_82_00_80_01_00
 abbrev bind8 : List ℕ
 bind8 = run 8 0x00_03_01_82_00_00_05_01
 
-abbrev paper : List (Row Sent Told)
+abbrev paper : List (Row Sent Answer)
 paper =
     -- P1, P2
     adds [] bind1 bind1 0x00
@@ -96,13 +99,13 @@ pub record AllRows : Type 0 where
   pub get-group-info : AsTold answerTo commands.get-group-info
   pub payload-lengths : AsTold answerTo commands.payload-lengths
   pub rights : AsTold answerTo commands.rights
-  pub reads : AsTold calls.readOf calls.reads
+  pub reads : AsTold reading calls.reads
   pub copies : AsTold calls.copyOf calls.copies
   pub admissions : AsTold calls.admitOf calls.admissions
   pub releases : AsTold calls.releaseOf calls.releases
 
 pub as-told : AllRows
-unfolding whole
+unfolding whole readBack
 as-told = record {
   paper = refl;
   matching = refl;

@@ -1,12 +1,12 @@
 -- Rows: reading, copying, and the two calls of the host (document 01, Outcomes), each with every outcome of its own.
 use Rattle.words.specs.Basics.{List, [], _∷_, _++_, map, ℕ, replicate}
 use Rattle.words.specs.Names.{device}
-use Rattle.words.specs.Outcomes.{numberOf, valueOf}
-use Rattle.rules.specs.Types.{Fields}
+use Rattle.words.proofs.Apart.{readBack}
+use Rattle.rules.specs.Types.{Fields, Reading}
 use Rattle.rules.specs.Frame.{Lent}
-use Rattle.rules.specs.Message.{reading}
-use Rattle.rules.specs.Copy.{CopyAnswer, copy}
-use Rattle.rules.specs.Host.{HostAnswer, admit, release}
+use Rattle.rules.specs.Message.{readingOf}
+use Rattle.rules.specs.Copy.{CopyAnswer, copyAnswer, copy}
+use Rattle.rules.specs.Host.{HostAnswer, hostAnswer, admit, release}
 use Rattle.rules.proofs.Samples.{Row, row, run, lending, filled, known, device-table, D1, D3, D4, D5, groups, members, holding, house}
 
 -- a message with every reserved bit set, transport 0xAA 0xBB, and three octets of payload
@@ -61,19 +61,12 @@ no-fields =
       payload = 0;
     }
 
--- the outcome's number and the fields
-pub record Read : Type 0 where
-  pub number : ℕ
-  pub fields : Fields
-
-abbrev read : ℕ → Fields → Read
-read n f = record { number = n; fields = f }
-
-abbrev pub readOf : List ℕ → Read
-readOf m = read (numberOf (reading m .outcome)) (reading m .fields)
+-- the outcome's number, and the fields
+abbrev read : ℕ → Fields → Reading
+read number f = readingOf (readBack number 0) f
 
 -- "Reading alone: 10, 11, 12 with every field 0, else 0 with the fields and where the payload begins (octet 16)."
-abbrev pub reads : List (Row (List ℕ) Read)
+abbrev pub reads : List (Row (List ℕ) Reading)
 reads = row full (read 0 full-fields) ∷ map (λ x. row (x .asked) (read (x .due) no-fields)) unreadable
 
 -- a copy into this room for a unit of a device
@@ -86,26 +79,19 @@ pub record Copying : Type 0 where
 abbrev copying : List ℕ → ℕ → ℕ → ℕ → Copying
 copying m room d u = record { message = m; room = lending room []; to = d; unit = u }
 
+abbrev pub copyOf : Copying → CopyAnswer
+copyOf c = copy (c .message) (c .room) (device (c .to)) (c .unit)
+
 -- the outcome's number, the copy's length, and the room
-pub record Copied : Type 0 where
-  pub number : ℕ
-  pub length : ℕ
-  pub room : List ℕ
-
-abbrev copied : ℕ → ℕ → List ℕ → Copied
-copied n k room = record { number = n; length = k; room = room }
-
-abbrev pub copyOf : Copying → Copied
-copyOf c =
-    let a : CopyAnswer = copy (c .message) (c .room) (device (c .to)) (c .unit) in
-    copied (numberOf (a .outcome)) (valueOf (a .outcome)) (a .room)
+abbrev copied : ℕ → ℕ → List ℕ → CopyAnswer
+copied number length room = copyAnswer (readBack number length) room
 
 -- "room shorter than the message, device above 0x7FFE or unit 0xFF"
-abbrev uncopied : ℕ → ℕ → ℕ → Row Copying Copied
+abbrev uncopied : ℕ → ℕ → ℕ → Row Copying CopyAnswer
 uncopied room d u = row (copying full room d u) (copied 19 0 (lending room []))
 
 -- "A copy equals the message but for octets 4 to 6: type 0, device, unit.": reserved bits and transport stay; of the room what is behind the copy
-abbrev pub copies : List (Row Copying Copied)
+abbrev pub copies : List (Row Copying CopyAnswer)
 copies =
     row (copying full 20 5 1) (copied 0 18 (lending 20 (run 18 0x80_03_01_00_05_01_AA_BB_07_02_82_00_05_FE_03_41_42_43)))
     ∷ row (copying full 18 0x7FFE 0xFE) (copied 0 18 (run 18 0x80_03_01_7F_FE_FE_AA_BB_07_02_82_00_05_FE_03_41_42_43))
@@ -119,17 +105,9 @@ copies =
 
 -- The host's calls
 
--- the outcome's number, the count, which is 0, and the tables
-pub record Hosted : Type 0 where
-  pub number : ℕ
-  pub count : ℕ
-  pub tables : Lent
-
-abbrev hosted : ℕ → Lent → Hosted
-hosted n L = record { number = n; count = 0; tables = L }
-
-abbrev answered : HostAnswer → Hosted
-answered a = record { number = numberOf (a .outcome); count = valueOf (a .outcome); tables = a .tables }
+-- the outcome's number, and the tables
+abbrev hosted : ℕ → Lent → HostAnswer
+hosted number L = hostAnswer (readBack number 0) L
 
 -- admit these numbers to these tables
 pub record Admitting : Type 0 where
@@ -141,8 +119,8 @@ pub record Admitting : Type 0 where
 abbrev admitting : Lent → ℕ → ℕ → ℕ → Admitting
 admitting L d r h = record { tables = L; address = d; rights = r; highest = h }
 
-abbrev pub admitOf : Admitting → Hosted
-admitOf x = answered (admit (x .tables) (device (x .address)) (x .rights) (x .highest))
+abbrev pub admitOf : Admitting → HostAnswer
+admitOf x = admit (x .tables) (device (x .address)) (x .rights) (x .highest)
 
 abbrev plain : Lent
 plain = house []
@@ -152,10 +130,10 @@ abbrev four-devices : List ℕ
 four-devices = D1 ++ D3 ++ D4 ++ D5
 
 -- .. and this one
-abbrev admits : ℕ → ℕ → ℕ → Row Admitting Hosted
+abbrev admits : ℕ → ℕ → ℕ → Row Admitting HostAnswer
 admits d r h = row (admitting plain d r h) (hosted 0 (holding (four-devices ++ known d r h) (filled 48 []) groups members))
 
-abbrev not-admitted : Lent → ℕ → ℕ → ℕ → ℕ → Row Admitting Hosted
+abbrev not-admitted : Lent → ℕ → ℕ → ℕ → ℕ → Row Admitting HostAnswer
 not-admitted L d r h o = row (admitting L d r h) (hosted o L)
 
 -- no free record; one that is cut off behind it, so that the tables are not sound
@@ -166,7 +144,7 @@ full-of-devices = holding four-devices [] groups members
 abbrev unsound : Lent
 unsound = holding (four-devices ++ 0xFF ∷ []) [] groups members
 
-abbrev pub admissions : List (Row Admitting Hosted)
+abbrev pub admissions : List (Row Admitting HostAnswer)
 admissions =
     admits 6 0 2
     ∷ admits 2 1 0
@@ -193,10 +171,10 @@ pub record Releasing : Type 0 where
 abbrev releasing : Lent → ℕ → Releasing
 releasing L d = record { tables = L; address = d }
 
-abbrev pub releaseOf : Releasing → Hosted
-releaseOf x = answered (release (x .tables) (device (x .address)))
+abbrev pub releaseOf : Releasing → HostAnswer
+releaseOf x = release (x .tables) (device (x .address))
 
-abbrev not-released : Lent → ℕ → ℕ → Row Releasing Hosted
+abbrev not-released : Lent → ℕ → ℕ → Row Releasing HostAnswer
 not-released L d o = row (releasing L d) (hosted o L)
 
 -- binds from and to device 4, from device 3 to device 5, to G'0001 and to D'0001
@@ -217,7 +195,7 @@ abbrev bound : Lent
 bound = house (from-four ++ to-four ++ others ++ to-one)
 
 -- "Release takes the device, its members and all binds that name it as source or individual destination."
-abbrev pub releases : List (Row Releasing Hosted)
+abbrev pub releases : List (Row Releasing HostAnswer)
 releases =
     row (releasing bound 4) (hosted 0 (holding
     (D1 ++ D3 ++ device-table 1 [] ++ D5 ++ device-table 1 [])

@@ -1,22 +1,23 @@
 -- Rows: the eleven commands, their codes and what they change (document 01, Commands and codes).
 use Rattle.words.specs.Basics.{List, [], _∷_, _++_, map, flatMap, ℕ, _+_, _-_, length, take, replicate}
 use Rattle.rules.specs.Frame.{Lent}
+use Rattle.rules.specs.Calls.{Answer}
 use Rattle.rules.proofs.Samples.{Row, row, run, filled, named, devices, groups, members, threeMembers, holding, house, three-one, four-one}
-use Rattle.rules.proofs.Samples.{concentrator, bindManagement, groupManagement, letter, Sent, Told, sent, replied}
+use Rattle.rules.proofs.Samples.{concentrator, bindManagement, groupManagement, letter, Sent, sent, replied}
 
 -- A command from 3:01 and its reply
 
 -- to this interface, as this member, with this payload: from these tables to those, and what is answered
-abbrev command : List ℕ → ℕ → List ℕ → Lent → Lent → List ℕ → Row Sent Told
+abbrev command : List ℕ → ℕ → List ℕ → Lent → Lent → List ℕ → Row Sent Answer
 command interface member p before after answer =
     row (sent before (letter three-one concentrator 0x01 interface member p)) (replied after three-one interface member answer)
 
 -- granted
-abbrev grants : List ℕ → ℕ → List ℕ → Lent → Lent → Row Sent Told
+abbrev grants : List ℕ → ℕ → List ℕ → Lent → Lent → Row Sent Answer
 grants interface member p before after = command interface member p before after (0x00 ∷ [])
 
 -- answered with a code, and nothing changed
-abbrev code : ℕ → List ℕ → ℕ → Lent → List ℕ → Row Sent Told
+abbrev code : ℕ → List ℕ → ℕ → Lent → List ℕ → Row Sent Answer
 code c interface member L p = command interface member p L L (c ∷ [])
 
 -- Bind Management
@@ -26,10 +27,10 @@ plain = house []
 
 -- Add Bind in the house without binds
 
-abbrev stores : List ℕ → List ℕ → Row Sent Told
+abbrev stores : List ℕ → List ℕ → Row Sent Answer
 stores p b = grants bindManagement 0x01 p plain (house b)
 
-abbrev wrong-bind : ℕ → Row Sent Told
+abbrev wrong-bind : ℕ → Row Sent Answer
 wrong-bind p = code 0x02 bindManagement 0x01 plain (run 8 p)
 
 abbrev to-four : List ℕ
@@ -42,7 +43,7 @@ to-group = run 8 0x00_03_01_82_00_80_01_00
 abbrev full-of-binds : Lent
 full-of-binds = holding devices (to-four ++ to-group) groups members
 
-abbrev pub add-bind : List (Row Sent Told)
+abbrev pub add-bind : List (Row Sent Answer)
 add-bind =
     -- to a unit, to a group, at a client interface, from and to the concentrator; octet 1's top bit is ignored, and stored as 0
     stores to-four to-four
@@ -98,14 +99,14 @@ abbrev five : Lent
 five = house (a ++ b ++ c ++ d ++ e)
 
 -- a Remove command by its member: what is left of the five
-abbrev leaves : ℕ → List ℕ → List ℕ → Row Sent Told
+abbrev leaves : ℕ → List ℕ → List ℕ → Row Sent Answer
 leaves member p rest = grants bindManagement member p five (house rest)
 
 -- .. where nothing matches
-abbrev nothing : ℕ → List ℕ → Row Sent Told
+abbrev nothing : ℕ → List ℕ → Row Sent Answer
 nothing member p = code 0x02 bindManagement member five p
 
-abbrev pub remove-binds : List (Row Sent Told)
+abbrev pub remove-binds : List (Row Sent Answer)
 remove-binds =
     -- Remove Bind: the eight octets, octet 1's top bit ignored
     leaves 0x02 a (gone ++ b ++ c ++ d ++ e)
@@ -141,10 +142,10 @@ abbrev grouped : List ℕ → List ℕ → Lent
 grouped gs ms = holding devices (filled 48 []) gs ms
 
 -- Create Group: the groups that are left, and the address in the reply
-abbrev creates : List ℕ → List ℕ → List ℕ → ℕ → Row Sent Told
+abbrev creates : List ℕ → List ℕ → List ℕ → ℕ → Row Sent Answer
 creates p before after g = command groupManagement 0x01 p (grouped before []) (grouped after []) (run 3 g)
 
-abbrev no-group : ℕ → List ℕ → List ℕ → Row Sent Told
+abbrev no-group : ℕ → List ℕ → List ℕ → Row Sent Answer
 no-group c gs p = code c groupManagement 0x01 (grouped gs []) p
 
 abbrev two : List ℕ
@@ -154,7 +155,7 @@ two = named 1 (0x53 ∷ []) ++ named 2 []
 abbrev name : ℕ → List ℕ
 name n = replicate n 0x41
 
-abbrev pub create-group : List (Row Sent Told)
+abbrev pub create-group : List (Row Sent Answer)
 create-group =
     -- the smallest address not in use, in the first free record; a name that is there, none, and one of 13 octets
     creates (run 2 0x01_53) groups (two ++ named 3 (0x53 ∷ [])) 0x00_00_03
@@ -169,7 +170,7 @@ create-group =
     ∷ []
 
 -- Delete Group: the group, its members and the binds to it go, and no bind to the device of its number
-abbrev pub delete-group : List (Row Sent Told)
+abbrev pub delete-group : List (Row Sent Answer)
 delete-group =
     deletes 0x00_01
     ∷ deletes 0x80_01
@@ -177,23 +178,23 @@ delete-group =
     ∷ code 0x02 groupManagement 0x02 five (run 2 0x7F_FF)
     ∷ []
   where
-    deletes : ℕ → Row Sent Told
+    deletes : ℕ → Row Sent Answer
     deletes g =
         grants groupManagement 0x02 (run 2 g) five
         (holding devices (filled 48 (a ++ b ++ c ++ gone ++ e)) (filled 16 [] ++ named 2 [] ++ filled 16 []) (filled 20 []))
 
 -- Add to Group and Remove from Group: the members that are left
 
-abbrev joins : ℕ → List ℕ → Row Sent Told
+abbrev joins : ℕ → List ℕ → Row Sent Answer
 joins p after = grants groupManagement 0x03 (run 5 p) plain (grouped groups (threeMembers ++ after))
 
-abbrev not-joined : ℕ → ℕ → Row Sent Told
+abbrev not-joined : ℕ → ℕ → Row Sent Answer
 not-joined c p = code c groupManagement 0x03 plain (run 5 p)
 
 abbrev full-of-members : Lent
 full-of-members = grouped groups threeMembers
 
-abbrev pub add-to-group : List (Row Sent Told)
+abbrev pub add-to-group : List (Row Sent Answer)
 add-to-group =
     -- top bits are ignored, and stored as 0; a unit in a second group; the concentrator
     joins 0x80_01_80_05_00 (run 5 0x00_01_00_05_00)
@@ -212,7 +213,7 @@ add-to-group =
     ∷ code 0x02 groupManagement 0x03 full-of-members (run 5 0x00_01_00_05_02)
     ∷ []
 
-abbrev pub remove-from-group : List (Row Sent Told)
+abbrev pub remove-from-group : List (Row Sent Answer)
 remove-from-group =
     quits 0x00_01_00_04_02
     ∷ quits 0x80_01_80_04_02
@@ -221,12 +222,12 @@ remove-from-group =
     ∷ code 0x02 groupManagement 0x04 plain (run 5 0xFF_FF_FF_FF_FF)
     ∷ []
   where
-    quits : ℕ → Row Sent Told
+    quits : ℕ → Row Sent Answer
     quits p =
         grants groupManagement 0x04 (run 5 p) plain (grouped groups (filled 20 (run 5 0x00_01_00_05_01 ++ filled 5 [] ++ run 5 0x00_01_00_03_01)))
 
 -- Get Group Info: name length, name, number of members, members by rising device and unit
-abbrev pub get-group-info : List (Row Sent Told)
+abbrev pub get-group-info : List (Row Sent Answer)
 get-group-info =
     command groupManagement 0x05 (run 2 0x00_01) plain plain (run 14 0x00_01_53_00_03_00_03_01_00_04_02_00_05_01)
     ∷ command groupManagement 0x05 (run 2 0x80_02) plain plain (run 4 0x00_00_00_00)
@@ -260,14 +261,14 @@ eleven =
     ∷ []
 
 -- "0x02 payload length": one octet too short, one too long
-abbrev pub payload-lengths : List (Row Sent Told)
+abbrev pub payload-lengths : List (Row Sent Answer)
 payload-lengths = flatMap (λ g. wrong g (take (length (g .payload) - 1) (g .payload)) ∷ wrong g (g .payload ++ 0x00 ∷ []) ∷ []) eleven
   where
-    wrong : Given → List ℕ → Row Sent Told
+    wrong : Given → List ℕ → Row Sent Answer
     wrong g p = code 0x02 (g .interface) (g .member) five p
 
 -- "0x01 sender's rights are 0.": from device 4, also with a payload of a wrong length, which is asked behind it
-abbrev pub rights : List (Row Sent Told)
+abbrev pub rights : List (Row Sent Answer)
 rights =
     map (λ g. unauthorized g (g .payload)) (take 10 eleven)
     ++ map (λ g. unauthorized g []) (take 10 eleven)
@@ -280,9 +281,9 @@ rights =
     ∷ bound-by three-one (run 15 0x80_03_01_00_00_00_AA_BB_07_01_80_02_01_FE_08 ++ to-four)
     ∷ []
   where
-    unauthorized : Given → List ℕ → Row Sent Told
+    unauthorized : Given → List ℕ → Row Sent Answer
     unauthorized g p =
         row (sent five (letter four-one concentrator 0x01 (g .interface) (g .member) p)) (replied five four-one (g .interface) (g .member) (0x01 ∷ []))
 
-    bound-by : List ℕ → List ℕ → Row Sent Told
+    bound-by : List ℕ → List ℕ → Row Sent Answer
     bound-by from m = row (sent plain m) (replied (house to-four) from bindManagement 0x01 (0x00 ∷ []))

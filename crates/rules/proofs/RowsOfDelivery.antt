@@ -1,7 +1,8 @@
 -- Rows: who gets a message (document 01, Recipients; the types of "The message").
 use Rattle.words.specs.Basics.{List, [], _∷_, _++_, map, ℕ, replicate}
 use Rattle.rules.specs.Frame.{Lent}
-use Rattle.rules.proofs.Samples.{Row, row, run, house, three-one, four-one, concentrator, to-binds, to-group-one, curtains, letter, request, Sent, Told}
+use Rattle.rules.specs.Calls.{Answer}
+use Rattle.rules.proofs.Samples.{Row, row, run, house, three-one, four-one, concentrator, to-binds, to-group-one, curtains, letter, request, Sent}
 use Rattle.rules.proofs.Samples.{sent, unchanged, goes}
 
 -- from 3:01 at server interface 0x0200 to 4:02
@@ -9,11 +10,11 @@ abbrev one : Lent
 one = house (run 8 0x00_03_01_82_00_00_04_02)
 
 -- a request that this one bind does not match
-abbrev unmatched : List ℕ → Row Sent Told
+abbrev unmatched : List ℕ → Row Sent Answer
 unmatched m = row (sent one m) (unchanged one 2)
 
 -- "binds whose source device, source unit, UID and interface type equal the message's"
-abbrev pub matching : List (Row Sent Told)
+abbrev pub matching : List (Row Sent Answer)
 matching =
     row (sent one (request three-one curtains)) (goes one 1 0x00_04_02)
     -- another device, another unit, another UID, the client's role
@@ -24,11 +25,11 @@ matching =
     ∷ []
 
 -- these binds are there, and a request of this unit goes to these n units
-abbrev bound : List ℕ → List ℕ → ℕ → ℕ → Row Sent Told
+abbrev bound : List ℕ → List ℕ → ℕ → ℕ → Row Sent Answer
 bound bs from n us = row (sent (house bs) (request from curtains)) (goes (house bs) n us)
 
 -- "the named unit or the group's members, without the sender"; "Each unit stands once, by rising device, then unit"
-abbrev pub binding : List (Row Sent Told)
+abbrev pub binding : List (Row Sent Answer)
 binding =
     -- 4:02 by a bind and by the group of another, 3:01 sends
     bound (run 8 0x00_03_01_82_00_80_01_00 ++ run 8 0x00_03_01_82_00_00_04_02) three-one 2 0x00_04_02_00_05_01
@@ -47,11 +48,11 @@ abbrev plain : Lent
 plain = house []
 
 -- to this destination, from this unit
-abbrev to-it : List ℕ → List ℕ → Told → Row Sent Told
+abbrev to-it : List ℕ → List ℕ → Answer → Row Sent Answer
 to-it from to a = row (sent plain (letter from to 0x01 curtains 0x01 [])) a
 
 -- "Group: its members without the sender; the unit octet is ignored." "Individual destination ..: that unit alone."
-abbrev pub addressing : List (Row Sent Told)
+abbrev pub addressing : List (Row Sent Answer)
 addressing =
     -- from a member, from outside, with another unit octet; a group without members
     to-it three-one to-group-one (goes plain 2 0x00_04_02_00_05_01)
@@ -69,17 +70,17 @@ addressing =
     ∷ to-it-with 485
     ∷ []
   where
-    to-it-with : ℕ → Row Sent Told
+    to-it-with : ℕ → Row Sent Answer
     to-it-with n = row (sent plain (letter three-one (run 3 0x00_05_00) 0x01 curtains 0x01 (replicate n 0x00))) (goes plain 1 0x00_05_00)
 
 -- "the other ten are requests": each is delivered by binds
-abbrev pub requests : List (Row Sent Told)
+abbrev pub requests : List (Row Sent Answer)
 requests =
     map (λ t. row (sent one (letter three-one to-binds t curtains 0x01 [])) (goes one 1 0x00_04_02))
     (0x01 ∷ 0x02 ∷ 0x04 ∷ 0x06 ∷ 0x07 ∷ 0x09 ∷ 0x0B ∷ 0x0C ∷ 0x0E ∷ 0x0F ∷ [])
 
 -- .. and a response goes to one unit, of each of the six types
-abbrev pub responses : List (Row Sent Told)
+abbrev pub responses : List (Row Sent Answer)
 responses =
     map (λ t. row (sent plain (letter three-one (run 3 0x00_05_00) t curtains 0x01 [])) (goes plain 1 0x00_05_00))
     (0x03 ∷ 0x05 ∷ 0x08 ∷ 0x0A ∷ 0x0D ∷ 0x10 ∷ [])

@@ -1,13 +1,14 @@
 -- Rows: when a message is refused (document 01, Outcomes). Of each the tables, the reply and the list keep every octet.
 use Rattle.words.specs.Basics.{List, [], _∷_, _++_, map, ℕ, _+_, replicate}
 use Rattle.rules.specs.Frame.{Lent}
+use Rattle.rules.specs.Calls.{Answer}
 use Rattle.rules.proofs.Samples.{Row, row, run, lending, filled, devices, groups, members, holding, house, three-one, concentrator, to-binds}
-use Rattle.rules.proofs.Samples.{to-group-one, curtains, bindManagement, groupManagement, letter, Sent, Told, told, sent, reply, list, unchanged}
+use Rattle.rules.proofs.Samples.{to-group-one, curtains, bindManagement, groupManagement, letter, Sent, told, sent, reply, list, unchanged}
 
 abbrev plain : Lent
 plain = house []
 
-abbrev refused : List ℕ → ℕ → Row Sent Told
+abbrev refused : List ℕ → ℕ → Row Sent Answer
 refused m o = row (sent plain m) (unchanged plain o)
 
 -- from this unit, to this destination, as this type
@@ -22,7 +23,7 @@ abbrev typed : List ℕ → ℕ → List ℕ
 typed to type = letter three-one to type curtains 0x01 []
 
 -- 10, 11, 12
-abbrev pub unreadable : List (Row Sent Told)
+abbrev pub unreadable : List (Row Sent Answer)
 unreadable =
     -- none, 14 and 501 octets
     refused [] 10
@@ -38,17 +39,17 @@ unreadable =
     ∷ []
 
 -- 13: no such device, no such unit of a device, of the concentrator
-abbrev pub sources : List (Row Sent Told)
+abbrev pub sources : List (Row Sent Answer)
 sources = map (λ from. refused (from-it from) 13) (run 3 0x00_06_00 ∷ run 3 0x00_03_03 ∷ run 3 0x00_00_01 ∷ run 3 0x7F_FF_FF ∷ [])
 
 -- 14: no such device, unit, unit of the concentrator; D'7FFF with another unit; no such group, G'0000 with unit 0, G'7FFF with unit 0xFF
-abbrev pub destinations : List (Row Sent Told)
+abbrev pub destinations : List (Row Sent Answer)
 destinations =
     map (λ to. refused (to-it to) 14)
     (run 3 0x00_06_00 ∷ run 3 0x00_05_02 ∷ run 3 0x00_00_01 ∷ run 3 0x7F_FF_00 ∷ run 3 0x80_03_FF ∷ run 3 0x80_00_00 ∷ run 3 0xFF_FF_FF ∷ [])
 
 -- 15: each response type to the bind address; to a group, and to one that does not exist
-abbrev pub responses-to-many : List (Row Sent Told)
+abbrev pub responses-to-many : List (Row Sent Answer)
 responses-to-many =
     map (λ t. refused (typed to-binds t) 15) (0x03 ∷ 0x05 ∷ 0x08 ∷ 0x0A ∷ 0x0D ∷ 0x10 ∷ [])
     ++ refused (typed to-group-one 0x03) 15
@@ -56,14 +57,14 @@ responses-to-many =
     ∷ []
 
 -- a message to the concentrator, as this type, at this interface, with a member and a payload
-abbrev asks : ℕ → List ℕ → ℕ → List ℕ → Row Sent Told
+abbrev asks : ℕ → List ℕ → ℕ → List ℕ → Row Sent Answer
 asks type interface member p = refused (letter three-one concentrator type interface member p) 18
 
 abbrev bind : List ℕ
 bind = run 8 0x00_03_01_82_00_00_04_02
 
 -- 18
-abbrev pub not-served : List (Row Sent Told)
+abbrev pub not-served : List (Row Sent Answer)
 not-served =
     -- Add Bind and Create Group to a client interface, as a response, as another request
     asks 0x01 (run 2 0x00_02) 0x01 bind
@@ -81,14 +82,14 @@ not-served =
     ∷ []
 
 -- this reply and this list are lent
-abbrev lent : Lent → List ℕ → List ℕ → List ℕ → ℕ → Row Sent Told
+abbrev lent : Lent → List ℕ → List ℕ → List ℕ → ℕ → Row Sent Answer
 lent L m r l o = row (record { tables = L; message = m; reply = r; list = l }) (told o 0 L r l)
 
 abbrev no-records : Lent
 no-records = holding [] [] [] []
 
 -- 17: "reply under 500 octets, or recipient list under 3 × max(1, bind records + member records)"; six records and four, free ones counted
-abbrev pub room : List (Row Sent Told)
+abbrev pub room : List (Row Sent Answer)
 room =
     lent plain (from-it three-one) (lending 499 []) list 17
     ∷ lent plain (from-it three-one) reply (lending 29 []) 17
@@ -110,7 +111,7 @@ cut-off = holding (devices ++ 0xFF ∷ []) (filled 48 []) groups members
 abbrev all-wrong : List ℕ
 all-wrong = run 14 0x00_06_00_80_03_FF_00_00_07_11_82_00_01_01
 
-abbrev pub order : List (Row Sent Told)
+abbrev pub order : List (Row Sent Answer)
 order =
     lent cut-off all-wrong (lending 499 []) list 17
     ∷ lent cut-off all-wrong reply list 16

@@ -1,8 +1,9 @@
 -- Rows: tables that are not sound are refused whatever is sent (document 01, Tables: "Tables are sound if"; Outcomes, 16). Each has one fault.
 use Rattle.words.specs.Basics.{List, [], _∷_, _++_, map, ℕ, _+_, replicate}
 use Rattle.rules.specs.Frame.{Lent}
+use Rattle.rules.specs.Calls.{Answer}
 use Rattle.rules.proofs.Samples.{Row, row, run, lending, filled, known, device-table, D3, D4, D5, named, devices, groups, members, holding, three-one}
-use Rattle.rules.proofs.Samples.{curtains, request, Sent, Told, told, sent, reply, goes}
+use Rattle.rules.proofs.Samples.{curtains, request, Sent, told, sent, reply, goes}
 
 -- the house with one more record, or with other octets, in one table
 
@@ -74,20 +75,20 @@ binds-and-members =
 abbrev list : List ℕ
 list = lending 400 []
 
-abbrev unsound : Lent → Row Sent Told
+abbrev unsound : Lent → Row Sent Answer
 unsound L = row (record { tables = L; message = request three-one curtains; reply = reply; list = list }) (told 16 0 L reply list)
 
-abbrev pub table-lengths : List (Row Sent Told)
+abbrev pub table-lengths : List (Row Sent Answer)
 table-lengths = map unsound lengths
 
-abbrev pub fields : List (Row Sent Told)
+abbrev pub fields : List (Row Sent Answer)
 fields = map unsound devices-and-groups
 
-abbrev pub references : List (Row Sent Told)
+abbrev pub references : List (Row Sent Answer)
 references = map unsound binds-and-members
 
 -- sound: "D'0000 allowed in binds and members"; a group bind with any unit but 0xFF; a name of 13; the lowest and the highest address
-abbrev pub sound : List (Row Sent Told)
+abbrev pub sound : List (Row Sent Answer)
 sound =
     row (sent concentrator-bound (request three-one curtains)) (goes concentrator-bound 1 0x00_00_00)
     ∷ []

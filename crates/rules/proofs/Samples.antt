@@ -1,9 +1,9 @@
 -- What rows are made of: the tables of a house, messages, and the answers that are due. All that is lent to be written is filled with 0xAA, so that an
 -- octet written past those due shows. No definition of an answer is used to say what is due.
 use Rattle.words.specs.Basics.{_≡_, List, [], _∷_, _++_, map, ℕ, zero, suc, _+_, _-_, _*_, _/_, _%_, length, replicate}
-use Rattle.words.specs.Outcomes.{numberOf, valueOf}
+use Rattle.words.proofs.Apart.{readBack}
 use Rattle.rules.specs.Frame.{Lent, nothingLent, beside}
-use Rattle.rules.specs.Calls.{message, Answer}
+use Rattle.rules.specs.Calls.{message, Answer, answer}
 
 -- Rows
 
@@ -129,21 +129,12 @@ pub record Sent : Type 0 where
   pub reply : List ℕ
   pub list : List ℕ
 
--- the outcome's number, the count or length that goes with it, and every octet lent
-pub record Told : Type 0 where
-  pub number : ℕ
-  pub count : ℕ
-  pub tables : Lent
-  pub reply : List ℕ
-  pub list : List ℕ
+abbrev pub answerTo : Sent → Answer
+answerTo s = message (s .tables) (s .message) (s .reply) (s .list)
 
-abbrev pub told : ℕ → ℕ → Lent → List ℕ → List ℕ → Told
-told n c L r l = record { number = n; count = c; tables = L; reply = r; list = l }
-
-abbrev pub answerTo : Sent → Told
-answerTo s =
-    let a : Answer = message (s .tables) (s .message) (s .reply) (s .list) in
-    told (numberOf (a .outcome)) (valueOf (a .outcome)) (a .tables) (a .reply) (a .list)
+-- what is due: the outcome by its number and the count or length that goes with it, and every octet lent
+abbrev pub told : ℕ → ℕ → Lent → List ℕ → List ℕ → Answer
+told number count L r l = answer (readBack number count) L r l
 
 -- the reply and the list that are lent
 
@@ -157,15 +148,15 @@ abbrev pub sent : Lent → List ℕ → Sent
 sent L m = record { tables = L; message = m; reply = reply; list = list }
 
 -- this outcome, and nothing written
-abbrev pub unchanged : Lent → ℕ → Told
+abbrev pub unchanged : Lent → ℕ → Answer
 unchanged L outcome = told outcome 0 L reply list
 
 -- handed on to these n units
-abbrev pub goes : Lent → ℕ → ℕ → Told
+abbrev pub goes : Lent → ℕ → ℕ → Answer
 goes L n us = told 1 n L reply (lending 33 (run (3 * n) us))
 
 -- answered with this payload: the tables that are left, and the reply to who sent the command
-abbrev pub replied : Lent → List ℕ → List ℕ → ℕ → List ℕ → Told
+abbrev pub replied : Lent → List ℕ → List ℕ → ℕ → List ℕ → Answer
 replied L to interface member p =
     told 0 (15 + length p) L
     (lending 500 (run 3 0x00_00_00 ++ to ++ run 4 0x00_00_07_03 ++ interface ++ member ∷ run 2 (length p) ++ p)) list
