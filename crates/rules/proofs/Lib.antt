@@ -29,6 +29,8 @@ pub mod Samples
 pub mod RowsOfDelivery
 pub mod RowsOfRefusals
 pub mod RowsOfTables
+pub mod RowsOfBinds
+pub mod RowsOfGroups
 pub mod RowsOfCommands
 pub mod RowsOfCalls
 pub mod Rows

@@ -1,14 +1,20 @@
 -- The rows of document 01, "Rows to try": the cases marked P and the sample of `links`, from tables of full size. Then all rows in one theorem: these,
--- and those of `RowsOfDelivery`, `RowsOfRefusals`, `RowsOfTables`, `RowsOfCommands` and `RowsOfCalls`, which speak of the paper's other sentences.
+-- and those of the files `RowsOf..`, which speak of the paper's other sentences.
 use Rattle.words.specs.Basics.{refl, List, [], _∷_, _++_, ℕ}
 use Rattle.rules.specs.Frame.{Lent}
 use Rattle.rules.specs.Message.{reading}
 use Rattle.rules.specs.Calls.{Answer}
+use Rattle.words.specs.Outcomes.{numberOf, valueOf}
+use Rattle.words.specs.declared.Outcome.the-variants.{NotServed}
 use Rattle.words.proofs.Apart.{readBack}
+use Rattle.rules.specs.Types.{Outcome, Done, Forwarded, Nobody, WrongLength, WrongDataLength, WrongType, NoSource, NoDestination, ResponseToMany}
+use Rattle.rules.specs.Types.{Unsound, NoRoom, NoCopy, OutOfRange, AlreadyAdmitted, NoFreeRecord, NotAdmitted}
 use Rattle.rules.proofs.Whole.{whole}
 use Rattle.rules.proofs.RowsOfDelivery as delivery
 use Rattle.rules.proofs.RowsOfRefusals as refusals
 use Rattle.rules.proofs.RowsOfTables as unsound
+use Rattle.rules.proofs.RowsOfBinds as binds
+use Rattle.rules.proofs.RowsOfGroups as groups
 use Rattle.rules.proofs.RowsOfCommands as commands
 use Rattle.rules.proofs.RowsOfCalls as calls
 use Rattle.rules.proofs.Samples.{Row, row, AsTold, run, lending, filled, device-table, D3, D4, D5, named, threeMembers, holding, three-one, four-one}
@@ -24,7 +30,7 @@ list = lending 579 []
 abbrev starting : List ℕ → List ℕ → Answer → Row Sent Answer
 starting bs m a = row (record { tables = start bs; message = m; reply = reply; list = list }) a
 
--- a message to D'0:U'0 in free binds, and its one-octet reply
+-- Add Bind from this unit; its one-octet reply, and the binds that are left
 
 abbrev adding : List ℕ → List ℕ → List ℕ
 adding from p = letter from (run 3 0x00_00_00) 0x01 bindManagement 0x01 p
@@ -71,8 +77,35 @@ paper =
     ∷ starting (bind1 ++ bind2) (request three-one curtains) (told 1 2 (start (bind1 ++ bind2)) reply (lending 579 (run 6 0x00_04_02_00_05_01)))
     ∷ []
 
+-- The list of outcomes: each with its number and its count
+
+abbrev numbered : Outcome → List ℕ
+numbered o = numberOf o ∷ valueOf o ∷ []
+
+abbrev outcomes : List (Row Outcome (List ℕ))
+outcomes =
+    row (Done 16) (0 ∷ 16 ∷ [])
+    ∷ row (Forwarded 2) (1 ∷ 2 ∷ [])
+    ∷ row Nobody (2 ∷ 0 ∷ [])
+    ∷ row WrongLength (10 ∷ 0 ∷ [])
+    ∷ row WrongDataLength (11 ∷ 0 ∷ [])
+    ∷ row WrongType (12 ∷ 0 ∷ [])
+    ∷ row NoSource (13 ∷ 0 ∷ [])
+    ∷ row NoDestination (14 ∷ 0 ∷ [])
+    ∷ row ResponseToMany (15 ∷ 0 ∷ [])
+    ∷ row Unsound (16 ∷ 0 ∷ [])
+    ∷ row NoRoom (17 ∷ 0 ∷ [])
+    ∷ row NotServed (18 ∷ 0 ∷ [])
+    ∷ row NoCopy (19 ∷ 0 ∷ [])
+    ∷ row OutOfRange (20 ∷ 0 ∷ [])
+    ∷ row AlreadyAdmitted (21 ∷ 0 ∷ [])
+    ∷ row NoFreeRecord (22 ∷ 0 ∷ [])
+    ∷ row NotAdmitted (23 ∷ 0 ∷ [])
+    ∷ []
+
 -- Every row, by what it is about: where one fails, the check names its table
 pub record AllRows : Type 0 where
+  pub outcomes : AsTold numbered outcomes
   pub paper : AsTold answerTo paper
   pub matching : AsTold answerTo delivery.matching
   pub binding : AsTold answerTo delivery.binding
@@ -90,14 +123,16 @@ pub record AllRows : Type 0 where
   pub fields : AsTold answerTo unsound.fields
   pub references : AsTold answerTo unsound.references
   pub sound : AsTold answerTo unsound.sound
-  pub add-bind : AsTold answerTo commands.add-bind
-  pub remove-binds : AsTold answerTo commands.remove-binds
-  pub create-group : AsTold answerTo commands.create-group
-  pub delete-group : AsTold answerTo commands.delete-group
-  pub add-to-group : AsTold answerTo commands.add-to-group
-  pub remove-from-group : AsTold answerTo commands.remove-from-group
-  pub get-group-info : AsTold answerTo commands.get-group-info
+  pub add-bind : AsTold answerTo binds.add-bind
+  pub remove-binds : AsTold answerTo binds.remove-binds
+  pub create-group : AsTold answerTo groups.create-group
+  pub delete-group : AsTold answerTo groups.delete-group
+  pub add-to-group : AsTold answerTo groups.add-to-group
+  pub remove-from-group : AsTold answerTo groups.remove-from-group
+  pub get-group-info : AsTold answerTo groups.get-group-info
   pub payload-lengths : AsTold answerTo commands.payload-lengths
+  pub length-first : AsTold answerTo commands.length-first
+  pub clients : AsTold answerTo commands.clients
   pub rights : AsTold answerTo commands.rights
   pub reads : AsTold reading calls.reads
   pub copies : AsTold calls.copyOf calls.copies
@@ -107,6 +142,7 @@ pub record AllRows : Type 0 where
 pub as-told : AllRows
 unfolding whole readBack
 as-told = record {
+  outcomes = refl;
   paper = refl;
   matching = refl;
   binding = refl;
@@ -132,6 +168,8 @@ as-told = record {
   remove-from-group = refl;
   get-group-info = refl;
   payload-lengths = refl;
+  length-first = refl;
+  clients = refl;
   rights = refl;
   reads = refl;
   copies = refl;

@@ -13,7 +13,7 @@ use Rattle.rules.proofs.Samples.{Row, row, run, lending, filled, known,
 abbrev full : List ℕ
 full = run 18 0x80_03_01_80_01_FF_AA_BB_07_02_82_00_05_FE_03_41_42_43
 
--- what cannot be read, and why: in the paper's order three faults, two and one; then one each
+-- what cannot be read, and why: in the paper's order three faults, two and one; then others
 abbrev unreadable : List (Row (List ℕ) ℕ)
 unreadable =
     row (run 14 0x00_03_01_80_01_FF_00_00_07_11_82_00_05_01) 10
@@ -25,40 +25,22 @@ unreadable =
     ∷ row (run 15 0x00_03_01_80_01_FF_00_00_07_00_82_00_05_00_00) 12
     ∷ []
 
--- the fields of `full`
-abbrev full-fields : Fields
-full-fields =
+-- fields, in the message's order; the payload begins at octet 16, and is said to begin at 0 where there is none
+abbrev fields : ℕ → ℕ → ℕ → ℕ → ℕ → ℕ → ℕ → ℕ → ℕ → ℕ → ℕ → ℕ → Fields
+fields d u t to unit ref type i id m n at =
     record {
-      source = device 3;
-      «source_unit» = 1;
-      «address_type» = 1;
-      destination = 1;
-      «destination_unit» = 0xFF;
-      «app_ref» = 7;
-      «message_type» = 0x02;
-      «interface_type» = 1;
-      uid = 0x0200;
-      member = 5;
-      «data_length» = 3;
-      payload = 16;
-    }
-
--- every field 0
-abbrev no-fields : Fields
-no-fields =
-    record {
-      source = device 0;
-      «source_unit» = 0;
-      «address_type» = 0;
-      destination = 0;
-      «destination_unit» = 0;
-      «app_ref» = 0;
-      «message_type» = 0;
-      «interface_type» = 0;
-      uid = 0;
-      member = 0;
-      «data_length» = 0;
-      payload = 0;
+      source = device d;
+      «source_unit» = u;
+      «address_type» = t;
+      destination = to;
+      «destination_unit» = unit;
+      «app_ref» = ref;
+      «message_type» = type;
+      «interface_type» = i;
+      uid = id;
+      member = m;
+      «data_length» = n;
+      payload = at;
     }
 
 -- the outcome's number, and the fields
@@ -67,7 +49,12 @@ read number f = readingOf (readBack number 0) f
 
 -- "Reading alone: 10, 11, 12 with every field 0, else 0 with the fields and where the payload begins (octet 16)."
 abbrev pub reads : List (Row (List ℕ) Reading)
-reads = row full (read 0 full-fields) ∷ map (λ x. row (x .asked) (read (x .due) no-fields)) unreadable
+reads =
+    row full (read 0 (fields 3 1 1 1 0xFF 7 0x02 1 0x0200 5 3 16))
+    -- every bit of every field, set in one of these two
+    ∷ row (run 15 0xA5_5A_96_C3_69_87_FF_00_E1_0B_D2_B4_78_FE_00) (read 0 (fields 0x255A 0x96 1 0x4369 0x87 0xE1 0x0B 1 0x52B4 0x78 0 16))
+    ∷ row (run 15 0x5A_A5_69_3C_96_78_00_FF_1E_04_2D_4B_87_00_00) (read 0 (fields 0x5AA5 0x69 0 0x3C96 0x78 0x1E 4 0 0x2D4B 0x87 0 16))
+    ∷ map (λ x. row (x .asked) (read (x .due) (fields 0 0 0 0 0 0 0 0 0 0 0 0))) unreadable
 
 -- a copy into this room for a unit of a device
 pub record Copying : Type 0 where
@@ -144,6 +131,14 @@ full-of-devices = holding four-devices [] groups members
 abbrev unsound : Lent
 unsound = holding (four-devices ++ 0xFF ∷ []) [] groups members
 
+-- the devices of the house, these members, and one of a group that is not there
+
+abbrev grouped : List ℕ → Lent
+grouped ms = holding (four-devices ++ device-table 1 []) [] groups ms
+
+abbrev absent-group : Lent
+absent-group = grouped (run 5 0x00_03_00_04_02)
+
 abbrev pub admissions : List (Row Admitting HostAnswer)
 admissions =
     admits 6 0 2
@@ -161,6 +156,7 @@ admissions =
     ∷ not-admitted full-of-devices 3 1 1 21
     ∷ not-admitted full-of-devices 6 1 1 22
     ∷ not-admitted plain 3 1 1 21
+    ∷ not-admitted absent-group 6 1 1 16
     ∷ []
 
 -- release this device from these tables
@@ -204,11 +200,18 @@ releases =
     -- D'0001 goes, and G'0001, its members and the bind to it stay
     ∷ row (releasing bound 1) (hosted 0 (holding (device-table 1 [] ++ D3 ++ D4 ++ D5 ++ device-table 1 [])
     (from-four ++ to-four ++ others ++ filled 16 []) groups members))
-    -- 23: no such device, the concentrator, D'FFFF, which has the octets of a free record
+    -- its members in every group, and every unit of it
+    ∷ row (releasing (grouped members-of-four) 4) (hosted 0 (holding (D1 ++ D3 ++ device-table 1 [] ++ D5 ++ device-table 1 []) [] groups (filled 15 [])))
+    -- 23: no such device, the concentrator, a device with the top bit, D'FFFF, which has the octets of a free record
     ∷ not-released bound 6 23
     ∷ not-released bound 0 23
+    ∷ not-released bound 0x8004 23
     ∷ not-released bound 0xFFFF 23
     -- 16 before 23
     ∷ not-released unsound 6 16
     ∷ not-released unsound 4 16
+    ∷ not-released absent-group 4 16
     ∷ []
+  where
+    members-of-four : List ℕ
+    members-of-four = run 5 0x00_01_00_04_02 ++ run 5 0x00_02_00_04_00 ++ filled 5 []

@@ -1,4 +1,4 @@
--- Rows: tables that are not sound are refused whatever is sent (document 01, Tables: "Tables are sound if"; Outcomes, 16). Each has one fault.
+-- Rows: tables that are not sound are refused (document 01, Tables: "Tables are sound if"; Outcomes, 16), each for one fault; and tables that are sound.
 use Rattle.words.specs.Basics.{List, [], _∷_, _++_, map, ℕ, _+_, replicate}
 use Rattle.rules.specs.Frame.{Lent}
 use Rattle.rules.specs.Calls.{Answer}
@@ -54,22 +54,36 @@ devices-and-groups =
     ∷ with-device 6 2 2
     ∷ with-device 6 0 255
     ∷ with-device 3 0 1
-    -- a group G'0000, G'7FFF; a name of 14; padding 0x01 behind a name of 12; G'0001 again
+    -- a record that begins with 0xFF and is not free
+    ∷ with-device 0xFFFF 0xFF 0x00
+    -- a group G'0000, G'7FFF, with the top bit; a name of 14; padding 0x01 behind a name of 12, far behind one of 1, and for a name of 0; G'0001 again;
+    -- not free
     ∷ map with-group
-    (named 0 [] ∷ (run 2 0x7F_FF ++ replicate 14 0x00) ∷ (run 3 0x00_02_0E ++ replicate 13 0x41) ∷ (run 3 0x00_02_0C ++ replicate 12 0x41 ++ 0x01 ∷ [])
-    ∷ named 1 [] ∷ [])
+    (named 0 []
+    ∷ (run 2 0x7F_FF ++ replicate 14 0x00)
+    ∷ (run 2 0x80_02 ++ replicate 14 0x00)
+    ∷ (run 3 0x00_02_0E ++ replicate 13 0x41)
+    ∷ (run 3 0x00_02_0C ++ replicate 12 0x41 ++ 0x01 ∷ [])
+    ∷ (run 4 0x00_02_01_41 ++ replicate 11 0x00 ++ 0x01 ∷ [])
+    ∷ (run 4 0x00_02_00_01 ++ replicate 12 0x00)
+    ∷ named 1 []
+    ∷ (replicate 15 0xFF ++ 0x00 ∷ [])
+    ∷ [])
 
 -- "no used record twice in binds or members; each device and unit named exists; each group named exists; each bind meets the field rules of Add Bind"
 abbrev binds-and-members : List Lent
 binds-and-members =
-    -- octet 1 with its top bit; no such source, no such unit of it; UID 0x7FFF; destination unit 0xFF; no such destination, no such group; itself
+    -- octet 1 with its top bit; no such source, no such unit of it; UID 0x7FFF; destination unit 0xFF; no such destination, no such group; itself;
+    -- unit 1 of the concentrator, as source and as destination; not free
     map with-bind
     (0x80_03_01_82_00_00_04_02 ∷ 0x00_06_00_82_00_00_04_02 ∷ 0x00_03_03_82_00_00_04_02 ∷ 0x00_03_01_FF_FF_00_04_02 ∷ 0x00_03_01_82_00_80_01_FF
-    ∷ 0x00_03_01_82_00_00_05_02 ∷ 0x00_03_01_82_00_80_03_00 ∷ 0x00_03_01_82_00_00_03_01 ∷ [])
+    ∷ 0x00_03_01_82_00_00_05_02 ∷ 0x00_03_01_82_00_80_03_00 ∷ 0x00_03_01_82_00_00_03_01 ∷ 0x00_00_01_82_00_00_04_02 ∷ 0x00_03_01_82_00_00_00_01
+    ∷ 0xFF_FF_FF_FF_FF_FF_FF_FE ∷ [])
     -- a bind twice
     ++ with-binds (run 8 0x00_03_01_82_00_00_04_02 ++ filled 8 [] ++ run 8 0x00_03_01_82_00_00_04_02)
-    -- no such group, also with the top bit; no such device, no such unit; a member twice
-    ∷ map with-member (0x00_03_00_04_00 ∷ 0x80_01_00_04_00 ∷ 0x00_01_00_06_00 ∷ 0x00_01_00_04_03 ∷ 0x00_01_00_05_01 ∷ [])
+    -- no such group, also with the top bit; no such device, no such unit, unit 1 of the concentrator; a member twice; not free
+    ∷ map with-member
+    (0x00_03_00_04_00 ∷ 0x80_01_00_04_00 ∷ 0x00_01_00_06_00 ∷ 0x00_01_00_04_03 ∷ 0x00_01_00_00_01 ∷ 0x00_01_00_05_01 ∷ 0xFF_FF_FF_FF_00 ∷ [])
 
 -- with a list that is long enough for each of them
 abbrev list : List ℕ
@@ -87,11 +101,21 @@ fields = map unsound devices-and-groups
 abbrev pub references : List (Row Sent Answer)
 references = map unsound binds-and-members
 
--- sound: "D'0000 allowed in binds and members"; a group bind with any unit but 0xFF; a name of 13; the lowest and the highest address
+-- sound: "D'0000 allowed in binds and members"; unit 254 and D'7FFE, a name of 13 and G'7FFE; binds that differ in unit, role or UID alone; a unit in two
+-- groups, two units of a device in one; from a unit to another of its device
 abbrev pub sound : List (Row Sent Answer)
 sound =
-    row (sent concentrator-bound (request three-one curtains)) (goes concentrator-bound 1 0x00_00_00)
+    row (sent hub-bound (request three-one curtains)) (goes hub-bound 1 0x00_00_00)
+    ∷ row (sent many (request three-one curtains)) (goes many 5 0x00_00_00_00_03_02_00_04_00_00_04_01_00_04_02)
     ∷ []
   where
-    concentrator-bound : Lent
-    concentrator-bound = holding devices (run 8 0x00_03_01_82_00_00_00_00) groups (run 5 0x00_01_00_00_00)
+    hub-bound : Lent
+    hub-bound = holding devices (run 8 0x00_03_01_82_00_00_00_00) groups (run 5 0x00_01_00_00_00)
+
+    many : Lent
+    many =
+        holding (D3 ++ known 4 1 254 ++ known 0x7FFE 0 0)
+        (run 8 0x00_03_01_82_00_80_01_FE ++ run 8 0x00_03_01_82_00_80_01_00 ++ run 8 0x00_03_01_82_00_00_04_02 ++ run 8 0x00_03_01_02_00_00_04_02
+        ++ run 8 0x00_03_01_83_00_00_04_02 ++ run 8 0x00_03_01_82_00_00_03_02)
+        (run 3 0x00_01_0D ++ replicate 13 0x41 ++ run 3 0x7F_FE_00 ++ replicate 13 0x00)
+        (run 5 0x00_01_00_04_00 ++ run 5 0x00_01_00_04_01 ++ run 5 0x7F_FE_00_04_01 ++ run 5 0x00_01_00_00_00)

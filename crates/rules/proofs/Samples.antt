@@ -35,7 +35,7 @@ abbrev pub filled : ℕ → List ℕ → List ℕ
 filled n t = t ++ replicate (n - length t) 0xFF
 
 -- A house: devices 1 (rights 0, highest unit 1), 3 (1, 2), 4 (0, 2) and 5 (0, 1); groups 1 "S" and 2 without a name; members of group 1, by falling
--- device. Each table has one free record.
+-- device. Each of these tables has one free record.
 
 -- a device's record: address, rights, highest unit
 abbrev pub known : ℕ → ℕ → ℕ → List ℕ
@@ -80,6 +80,45 @@ holding ds bs gs ms = beside nothingLent ds bs gs ms
 -- the house with these binds in a table of six
 abbrev pub house : List ℕ → Lent
 house bs = holding devices (filled 48 bs) groups members
+
+abbrev pub plain : Lent
+plain = house []
+
+-- .. and with five binds: 3:01 to 4:02, 3:02 to 4:01, 4:01 to 5:01, 4:00 to G'0001, 3:01 to 1:01, and a free record
+
+abbrev pub a : List ℕ
+a = run 8 0x00_03_01_82_00_00_04_02
+
+abbrev pub b : List ℕ
+b = run 8 0x00_03_02_82_00_00_04_01
+
+abbrev pub c : List ℕ
+c = run 8 0x00_04_01_82_00_00_05_01
+
+abbrev pub d : List ℕ
+d = run 8 0x00_04_00_82_00_80_01_00
+
+abbrev pub e : List ℕ
+e = run 8 0x00_03_01_82_00_00_01_01
+
+abbrev pub five : Lent
+five = house (a ++ b ++ c ++ d ++ e)
+
+-- no free record among the binds, among the members
+
+abbrev pub full-of-binds : Lent
+full-of-binds = holding devices (a ++ d) groups members
+
+abbrev pub full-of-members : Lent
+full-of-members = holding devices (filled 48 []) groups threeMembers
+
+-- Another house, whose addresses want both of their octets: devices 0x7FFE with unit 254, 0x1234 and 0x0034; groups 0x1234, whose name has any octets, and
+-- 0x0034; members of group 0x1234 in no order
+abbrev pub far : Lent
+far =
+    holding (known 0x7FFE 1 254 ++ known 0x1234 0 2 ++ known 0x0034 0 2) (filled 16 [])
+    (run 3 0x12_34_0D ++ run 2 0x00_FF ++ replicate 11 0x41 ++ named 0x34 [])
+    (run 5 0x12_34_12_34_02 ++ run 5 0x12_34_00_34_01 ++ run 5 0x12_34_7F_FE_FE ++ run 5 0x00_34_00_34_02)
 
 -- Messages
 
@@ -160,3 +199,18 @@ abbrev pub replied : Lent → List ℕ → List ℕ → ℕ → List ℕ → Ans
 replied L to interface member p =
     told 0 (15 + length p) L
     (lending 500 (run 3 0x00_00_00 ++ to ++ run 4 0x00_00_07_03 ++ interface ++ member ∷ run 2 (length p) ++ p)) list
+
+-- A command from 3:01 and its reply
+
+-- to this interface, as this member, with this payload: from these tables to those, and what is answered
+abbrev pub command : List ℕ → ℕ → List ℕ → Lent → Lent → List ℕ → Row Sent Answer
+command interface member p before after answer =
+    row (sent before (letter three-one concentrator 0x01 interface member p)) (replied after three-one interface member answer)
+
+-- granted
+abbrev pub grants : List ℕ → ℕ → List ℕ → Lent → Lent → Row Sent Answer
+grants interface member p before after = command interface member p before after (0x00 ∷ [])
+
+-- answered with a code, and nothing changed
+abbrev pub code : ℕ → List ℕ → ℕ → Lent → List ℕ → Row Sent Answer
+code c interface member L p = command interface member p L L (c ∷ [])
