@@ -2,7 +2,7 @@
 use Rattle.words.specs.Basics.{List, [], _∷_, _++_, map, ℕ, replicate}
 use Rattle.rules.specs.Frame.{Lent}
 use Rattle.rules.specs.Calls.{Answer}
-use Rattle.rules.proofs.Samples.{Row, row, run, filled, devices, groups, holding, house, far, three-one, four-one, concentrator}
+use Rattle.rules.proofs.Samples.{Row, row, run, filled, devices, groups, holding, house, far-with, far, three-one, four-one, concentrator}
 use Rattle.rules.proofs.Samples.{to-binds, to-group-one, curtains, letter, request, Sent, sent, unchanged, goes}
 
 -- from 3:01 at server interface 0x0200 to 4:02
@@ -26,8 +26,14 @@ matching =
     -- at a client interface
     ∷ row (sent client (request three-one (run 2 0x02_00))) (goes client 1 0x00_04_02)
     ∷ row (sent client (request three-one curtains)) (unchanged client 2)
+    -- from D'1234, and not from D'0034
+    ∷ row (sent high (request (run 3 0x12_34_01) curtains)) (goes high 1 0x00_34_01)
+    ∷ row (sent high (request (run 3 0x00_34_01) curtains)) (unchanged high 2)
     ∷ []
   where
+    high : Lent
+    high = far-with (run 8 0x12_34_01_82_00_00_34_01)
+
     client : Lent
     client = house (run 8 0x00_03_01_02_00_00_04_02)
 

@@ -114,11 +114,14 @@ full-of-members = holding devices (filled 48 []) groups threeMembers
 
 -- Another house, whose addresses want both of their octets: devices 0x7FFE with unit 254, 0x1234 and 0x0034; groups 0x1234, whose name has any octets, and
 -- 0x0034; members of group 0x1234 in no order
-abbrev pub far : Lent
-far =
-    holding (known 0x7FFE 1 254 ++ known 0x1234 0 2 ++ known 0x0034 0 2) (filled 16 [])
+abbrev pub far-with : List ℕ → Lent
+far-with bs =
+    holding (known 0x7FFE 1 254 ++ known 0x1234 0 2 ++ known 0x0034 0 2) (filled 16 bs)
     (run 3 0x12_34_0D ++ run 2 0x00_FF ++ replicate 11 0x41 ++ named 0x34 [])
     (run 5 0x12_34_12_34_02 ++ run 5 0x12_34_00_34_01 ++ run 5 0x12_34_7F_FE_FE ++ run 5 0x00_34_00_34_02)
+
+abbrev pub far : Lent
+far = far-with []
 
 -- Messages
 
