@@ -3,7 +3,7 @@ use borrow.Rule.Slice.PartMut.{midOf}
 use Rattle.words.specs.Basics.{_≡_, sym, ap, _∙_, List, [], _∷_, ℕ, _-_, _≤_, length, leb-true}
 use Rattle.words.specs.Names.{headerLength, longest}
 use Rattle.words.specs.declared.Destination.{Destination}
-use Rattle.rules.specs.Types.{Fields, Command, Binds, Members, Outcome, Way, Refuse, Serve, Forward, Reading}
+use Rattle.rules.specs.Types.{Command, Binds, Members, Outcome, Way, Refuse, Serve, Forward, Reading}
 use Rattle.rules.specs.Frame.{Lent, nothingLent, beside, tables}
 use Rattle.rules.specs.Message.{fields, payload, reads, reading}
 use Rattle.rules.specs.Recipients.{recipients}

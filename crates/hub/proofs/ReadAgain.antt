@@ -6,7 +6,7 @@ use borrow.Fn.Kinds as K
 use denote.Triple.Clauses
 use Rattle.words.specs.Basics.{_≡_, sym, ap, _∙_, List, ℕ, _-_, take, now}
 use Rattle.words.specs.Names.{headerLength}
-use Rattle.rules.specs.Types.{Outcome, Done}
+use Rattle.rules.specs.Types.{Done}
 use Rattle.rules.specs.Frame.{Lent, lent}
 use Rattle.rules.specs.Message.{fields, readingOf, reading, answering}
 use Rattle.rules.specs.Calls.{Answer}

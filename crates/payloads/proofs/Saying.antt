@@ -2,7 +2,7 @@
 use lib.Seq.{take-append-seam}
 use Rattle.words.specs.Basics.{_≡_, refl, sym, ap, _∙_, List, [], _∷_, _++_, ℕ, zero, suc, _+_, _*_, _%_, _<_, _≤_, arith, length, take, drop, getD, set}
 use Rattle.words.specs.Basics.{drop-of-length-le, drop-cons}
-use Rattle.rules.specs.Octets.{octet, word, octets, ignoreTop, over}
+use Rattle.rules.specs.Octets.{word, ignoreTop, over}
 use Rattle.rules.specs.Payloads.{bindOf, memberOf, groupNamed}
 use Rattle.words.specs.Names.{group}
 

@@ -17,7 +17,7 @@ use Rattle.rules.proofs.Numbers.{group-said}
 use Rattle.rules.proofs.Standing.{Agree}
 use Rattle.rules.proofs.Granted.{info-granted}
 use Rattle.rules.proofs.Steps.{grantedBy, Answers, leaves, handles, answers, handled-granted, octets-payload}
-use Rattle.rules.proofs.Run.{Held, held-run}
+use Rattle.rules.proofs.Run.{Held, same-room, held-run}
 use Rattle.rules.proofs.Links.{members, exists, exactly-recipients, recipients-only}
 use Rattle.rules.proofs.Counts.{info-count}
 
@@ -31,17 +31,12 @@ unfolding over reply header octets
 behind-header f p r = refl
 
 module _ (L₀ L : Lent) (h : List Event) (k : Held L₀ L h) where
-  -- room is a matter of lengths, and these stay
-  room-kept : (r l : List ℕ) → roomy (L₀ .binds) (L₀ .members) r l ≡ true → roomy (L .binds) (L .members) r l ≡ true
-  unfolding roomy
-  room-kept r l e = rw (k .lengths Binds, k .lengths Members) e
-
   delivered : (m r l us : List ℕ) → Request h m → roomy (L₀ .binds) (L₀ .members) r l ≡ true → Exactly h (fields m) us → message L m r l ≡ forwarded us L r l
   unfolding message follow way reads wayOn ask wayTo _&_
   delivered m r l us q e x =
       let f : Fields = fields m in
       let is : unitExists (tables L Devices) (f .source) (f .«source_unit») ≡ true = exists L₀ L h k (f .source) (f .«source_unit») ∙ q .sent in
-      rw (room-kept r l e, k .sane .sound, q .length, q .data-length, q .type, is, q .request, q .to-binds)
+      rw (same-room k r l ∙ e, k .sane .sound, q .length, q .data-length, q .type, is, q .request, q .to-binds)
       (ap (λ us. forwarded us L r l) (recipients-only L₀ L h k m (q .octets) us x))
 
   info-payload : (s : DeviceAddress) (p : List ℕ) → judge (tables L) s GetGroupInfo p ≡ ok

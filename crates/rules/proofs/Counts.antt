@@ -17,7 +17,7 @@ use Rattle.rules.specs.Recipients.{membersOf}
 use Rattle.rules.specs.Commands.{infoHead, info, groupInfo}
 use Rattle.rules.proofs.Lists.{and-parts, split, any-map, any-keep, none-weaken, count-alike, length-kept, few-kept, first-passes}
 use Rattle.rules.proofs.Records.{length-records}
-use Rattle.rules.proofs.Words.{shaped, octet-small, addressed-word, word-of}
+use Rattle.rules.proofs.Words.{shaped, octet-small, addressed-word, word-of, shaped-length}
 use Rattle.rules.proofs.Changes.{all-used, shaped-records}
 use Rattle.rules.proofs.Order.{length-ordered, few-ordered}
 use Rattle.rules.proofs.Kept.{sound-at, Sane}
@@ -133,10 +133,6 @@ pub name-fits : (r : Rec) → groupFits r ≡ true → nameLength r ≤ longestN
 unfolding groupFits
 name-fits r h = leb-true (nameLength r) longestName (split (split h .0) .1)
 
-long-enough : (r : Rec) → shaped 16 r ≡ true → length r ≡ size Groups
-unfolding shaped
-long-enough r s = eqb-true (length r) 16 (split s .0)
-
 module _ (L : Lent) (g : GroupAddress) (S : Sane L) (e : groupExists (tables L Groups) g ≡ true) where
   shapes : all (shaped 16) (used (tables L Groups)) ≡ true
   shapes = all-used (shaped 16) (tables L Groups) (shaped-records 16 (L .groups) (S .octets Groups))
@@ -153,6 +149,6 @@ module _ (L : Lent) (g : GroupAddress) (S : Sane L) (e : groupExists (tables L G
   info-count rest =
       let r : Rec = firstOf [] (addressed (g .0)) (used (tables L Groups)) in
       info-behind r (ordered (membersOf (tables L Members) g)) rest
-      (name-length r (long-enough r (first-passes [] (addressed (g .0)) (shaped 16) (used (tables L Groups)) e shapes))
+      (name-length r (shaped-length 16 r (first-passes [] (addressed (g .0)) (shaped 16) (used (tables L Groups)) e shapes))
       (name-fits r (first-passes [] (addressed (g .0)) groupFits (used (tables L Groups)) e meets)))
       ∙ length-members g L S

@@ -1,5 +1,5 @@
 -- Every command answered 0x00 changes the tables in order, and changes them as the history's entries say.
-use Rattle.words.specs.Basics.{_≡_, refl, sym, ap, _∙_, Bool, true, false, cond, not, false≢true, List, ℕ, _+_, _*_, _<_, _≤_, arith, length, take, take-all}
+use Rattle.words.specs.Basics.{_≡_, refl, sym, ap, _∙_, Bool, true, false, cond, false≢true, List, ℕ, _+_, _*_, _<_, _≤_, arith, length, take, take-all}
 use Rattle.words.specs.Basics.{eqb, not-true, eq-eqb, eqb-true, leb-true}
 use Rattle.words.specs.Names.{code, ok, notAuthorized, invalidArgument, notEnoughResources}
 use Rattle.rules.specs.Types.{DeviceAddress, GroupAddress, Code, Command, AddBind, RemoveBinds, CreateGroup, DeleteGroup, AddToGroup, RemoveFromGroup}

@@ -4,7 +4,7 @@ use Rattle.words.specs.Outcomes.{numberOf, valueOf}
 use Rattle.rules.specs.Types.{DeviceAddress, Devices, Binds, Members, Outcome, Done, Unsound, OutOfRange, AlreadyAdmitted, NoFreeRecord, NotAdmitted}
 use Rattle.rules.specs.Lists.{ask, _&_}
 use Rattle.rules.specs.Octets.{octets}
-use Rattle.rules.specs.Tables.{Rec, used, someFree, addressed, none, wipe, change}
+use Rattle.rules.specs.Tables.{Rec, used, someFree, addressed, none, wipe}
 use Rattle.rules.specs.Layout.{size, partIs, deviceRecord, bindSource, boundDevice, toGroup, memberDevice, fromDevice, toDevice}
 use Rattle.rules.specs.Frame.{Lent, tables, also, Effect, nothing}
 use Rattle.rules.specs.Exists.{admitted}

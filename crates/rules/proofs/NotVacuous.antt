@@ -9,6 +9,7 @@ use Rattle.rules.specs.Octets.{octetString, over}
 use Rattle.rules.specs.Units.{threeOctets, unitOctets}
 use Rattle.rules.specs.Calls.{roomy, message, answer, forwarded}
 use Rattle.rules.specs.History.{Call, sends, said, after, Event, history, octetsOnly, granted, freeTables, Request, Exactly, memberCount}
+use Rattle.rules.proofs.Lists.{and-false}
 use Rattle.rules.proofs.Whole.{whole}
 use Rattle.rules.proofs.Condition3.{condition3}
 use Rattle.rules.proofs.Samples.{run, lending, four-one, concentrator, groupManagement, letter, reply}
@@ -54,17 +55,13 @@ linked-both : (u : ℕ) → (eqb u 0x00_04_02 || (eqb u 0x00_05_01 || false))
     ≡ (not (eqb u 0x00_03_01) && ((eqb 0x00_05_01 u || (eqb 0x00_04_02 u || false)) || (eqb 0x00_04_02 u || false)))
 linked-both u = step (eqb u 0x00_04_02) (eqb u 0x00_05_01) refl refl
   where
-    nobody : (a : Bool) → false ≡ (a && false)
-    nobody true = refl
-    nobody false = refl
-
     step : (a b : Bool) → eqb u 0x00_04_02 ≡ a → eqb u 0x00_05_01 ≡ b → (eqb u 0x00_04_02 || (eqb u 0x00_05_01 || false))
         ≡ (not (eqb u 0x00_03_01) && ((eqb 0x00_05_01 u || (eqb 0x00_04_02 u || false)) || (eqb 0x00_04_02 u || false)))
     step true b e f = rw (eqb-true u 0x00_04_02 e) refl
     step false true e f = rw (eqb-true u 0x00_05_01 f) refl
     step false false e f =
         rw (e, f, ne-eqb 0x00_05_01 u (λ z. eqb-false u 0x00_05_01 f (sym z)), ne-eqb 0x00_04_02 u (λ z. eqb-false u 0x00_04_02 e (sym z)))
-        (nobody (not (eqb u 0x00_03_01)))
+        (sym (and-false (not (eqb u 0x00_03_01))))
 
 pub meets : Meets
 unfolding whole calls

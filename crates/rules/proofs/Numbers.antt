@@ -1,7 +1,7 @@
 -- What is sent as octets, told in numbers: the runs that a removal looks for, the records that an addition stores, and the binds that a message matches.
 -- The tables compare octets and fields, the history numbers; on octets these are the same.
 use native.Mathlib.Numerals.{add-one}
-use Rattle.words.specs.Basics.{_≡_, refl, sym, ap, _∙_, Bool, true, false, _&&_, List, [], _∷_, _++_, ℕ, zero, suc, _+_, _*_, _/_, _%_, _<_, _≤_, arith, eqb}
+use Rattle.words.specs.Basics.{_≡_, refl, sym, ap, _∙_, Bool, true, _&&_, List, [], _∷_, _++_, ℕ, suc, _+_, _*_, _/_, _%_, _<_, _≤_, arith, eqb}
 use Rattle.words.specs.Basics.{length, drop, drop-cons, drop-drop, drop-of-length-le, eq-eqb, eqb-true}
 use Rattle.words.specs.Names.{group}
 use Rattle.words.specs.declared.BindPart.the-variants.{Whole, Source, SourceUnit, Destination, DestinationUnit}
@@ -15,19 +15,15 @@ use Rattle.rules.specs.Message.{fields, sender}
 use Rattle.rules.specs.Recipients.{bindMatches}
 use Rattle.rules.specs.Payloads.{bindOf, wanted, memberOf, groupNamed}
 use Rattle.rules.specs.History.{bindSaid, bindNamed, groupSaid, memberSaid, memberNamed, madeFor}
-use Rattle.rules.proofs.Lists.{and-parts, split, same-truth}
-use Rattle.rules.proofs.Words.{shaped, shaped-octets, octet-small, matches-word, octets-below, word-below}
+use Rattle.rules.proofs.Lists.{and-parts, and-true, and-assoc, same-truth}
+use Rattle.rules.proofs.Words.{shaped, shaped-length, shaped-octets, octet-small, matches-word, octets-below, word-below}
 
 -- A run in parts
 
 starts-append : (xs ys s : List ℕ) → starts (xs ++ ys) s ≡ (starts xs s && starts ys (drop (length xs) s))
 starts-append [] ys s = refl
 starts-append (x ∷ xs) ys [] = refl
-starts-append (x ∷ xs) ys (y ∷ s) = rw (starts-append xs ys s) (turn (eqb y x) (starts xs s) (starts ys (drop (length xs) s)))
-  where
-    turn : (a b c : Bool) → (a && (b && c)) ≡ ((a && b) && c)
-    turn true b c = refl
-    turn false b c = refl
+starts-append (x ∷ xs) ys (y ∷ s) = rw (starts-append xs ys s) (and-assoc (eqb y x) (starts xs s) (starts ys (drop (length xs) s)))
 
 matches-append : (i : ℕ) (xs ys : List ℕ) (r : Rec) → matches i (xs ++ ys) r ≡ (matches i xs r && matches (i + length xs) ys r)
 unfolding matches
@@ -36,11 +32,7 @@ matches-append i xs ys r = rw (← drop-drop (length xs) i r) (starts-append xs 
 -- one octet
 matches-octet : (i o : ℕ) (r : Rec) → i < length r → matches i (o ∷ []) r ≡ eqb (octet i r) o
 unfolding matches
-matches-octet i o r l = rw (drop-cons r i 0 l) (last (eqb (octet i r) o))
-  where
-    last : (a : Bool) → (a && true) ≡ a
-    last true = refl
-    last false = refl
+matches-octet i o r l = rw (drop-cons r i 0 l) (and-true (eqb (octet i r) o))
 
 -- Octets of a payload
 
@@ -109,16 +101,13 @@ member-said (a ∷ b ∷ c ∷ d ∷ e ∷ []) o l =
 -- What a removal names
 
 five : (a b c d e : Bool) → (a && (b && (c && (d && e)))) ≡ ((((a && b) && c) && d) && e)
-five true true true d e = refl
-five true true false d e = refl
-five true false c d e = refl
-five false b c d e = refl
+five a b c d e = and-assoc a b (c && (d && e)) ∙ and-assoc (a && b) c (d && e) ∙ and-assoc ((a && b) && c) d e
 
 -- a record of k octets whose octets from i on are a word and an octet
 unit-word : (k i w o : ℕ) (r : Rec) → i + 3 ≤ k → shaped k r ≡ true → matches i (octets w ++ o ∷ []) r ≡ (eqb (word i r) w && eqb (octet (i + 2) r) o)
 unfolding octets shaped
 unit-word k i w o r l s =
-    let n = eqb-true (length r) k (split s .0) in
+    let n = shaped-length k r s in
     matches-append i (octets w) (o ∷ []) r ∙ rw (matches-word k i w r (omega arith) s, matches-octet (i + 2) o r (omega arith)) refl
 
 module _ (p : List ℕ) (small : octetString p ≡ true) where
@@ -149,7 +138,7 @@ module _ (p : List ℕ) (small : octetString p ≡ true) where
   pub bind-named : (q : BindPart) → length p ≡ partLength q → (b : Rec) → shaped (size Binds) b ≡ true → partIs q (wanted q p) b ≡ bindNamed q p b
   unfolding partIs wanted bindNamed _&_ octets shaped
   bind-named Whole l b s =
-      let n = eqb-true (length b) 8 (split s .0) in
+      let n = shaped-length 8 b s in
       let unit : List ℕ = octet 2 p ∷ [] in
       let end : List ℕ = octet 7 p ∷ [] in
       ap (λ w. matches 0 w b) (whole-bind l)
@@ -180,11 +169,7 @@ module _ (p : List ℕ) (small : octetString p ≡ true) where
       ap (λ w. matches 0 w x) (member-said p small l)
       ∙ matches-append 0 (octets (number (word 0 p))) (octets (number (word 2 p)) ++ octet 4 p ∷ []) x
       ∙ rw (matches-word 5 0 (number (word 0 p)) x (omega arith) s, unit-word 5 2 (number (word 2 p)) (octet 4 p) x (omega arith) s)
-      (three (eqb (word 0 x) (number (word 0 p))) (eqb (word 2 x) (number (word 2 p))) (eqb (octet 4 x) (octet 4 p)))
-    where
-      three : (a b c : Bool) → (a && (b && c)) ≡ ((a && b) && c)
-      three true b c = refl
-      three false b c = refl
+      (and-assoc (eqb (word 0 x) (number (word 0 p))) (eqb (word 2 x) (number (word 2 p))) (eqb (octet 4 x) (octet 4 p)))
 
 -- The binds that a message matches
 
@@ -226,10 +211,5 @@ made-for m o b s =
       ← one-number (word 0 b) (octet 2 b) (number (word 0 m)) (octet 2 m) (octet-small b 2 t) (octet-small m 2 o),
       ← flag-and-number (word 3 b) (word 10 m) (word-below 8 3 b s) (octets-below m 10 o),
     )
-    (four (eqb (word 0 b) (number (word 0 m))) (eqb (octet 2 b) (octet 2 m)) (eqb (number (word 3 b)) (number (word 10 m)))
-    (eqb (flag (word 3 b)) (flag (word 10 m))))
-  where
-    four : (a b c d : Bool) → (((a && b) && c) && d) ≡ ((a && b) && (c && d))
-    four true true c d = refl
-    four true false c d = refl
-    four false b c d = refl
+    (sym (and-assoc (eqb (word 0 b) (number (word 0 m)) && eqb (octet 2 b) (octet 2 m)) (eqb (number (word 3 b)) (number (word 10 m)))
+    (eqb (flag (word 3 b)) (flag (word 10 m)))))

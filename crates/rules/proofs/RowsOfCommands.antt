@@ -1,6 +1,5 @@
 -- Rows: what all commands share, rights, the length of the payload and the server interface (document 01, Commands and codes), each of all eleven.
 use Rattle.words.specs.Basics.{List, [], _∷_, _++_, map, flatMap, ℕ, _-_, length, take, drop, replicate}
-use Rattle.rules.specs.Frame.{Lent}
 use Rattle.rules.specs.Calls.{Answer}
 use Rattle.rules.proofs.Samples.{Row, row, run, house, plain, a, five, full-of-binds, full-of-members, three-one, four-one, concentrator}
 use Rattle.rules.proofs.Samples.{bindManagement, groupManagement, letter, Sent, sent, unchanged, replied, code}

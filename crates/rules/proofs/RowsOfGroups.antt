@@ -2,7 +2,7 @@
 use Rattle.words.specs.Basics.{List, [], _∷_, _++_, ℕ, zero, suc, _+_, replicate}
 use Rattle.rules.specs.Frame.{Lent}
 use Rattle.rules.specs.Calls.{Answer}
-use Rattle.rules.proofs.Samples.{Row, row, run, lending, filled, known, devices, named, groups, threeMembers, members, holding, plain, a, b, c, e, five}
+use Rattle.rules.proofs.Samples.{Row, row, run, lending, filled, known, devices, named, groups, threeMembers, holding, plain, a, b, c, e, five}
 use Rattle.rules.proofs.Samples.{full-of-members, far, three-one, concentrator, groupManagement, letter, Sent, told, reply, list, sent, command, grants}
 use Rattle.rules.proofs.Samples.{code}
 

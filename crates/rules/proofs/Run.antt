@@ -2,13 +2,14 @@
 use native.Mathlib.Nat.{div-add-mod'}
 use Rattle.words.specs.Basics.{_≡_, refl, _∙_, true, false, cond, List, [], _∷_, ℕ, zero, suc, _*_, _/_, arith, eqb, leb, length, take, drop, length-drop}
 use Rattle.words.specs.Basics.{take-append-drop, eqb-true, le-leb}
-use Rattle.rules.specs.Types.{Kind, Devices, Groups}
+use Rattle.rules.specs.Types.{Kind, Devices, Binds, Groups, Members}
 use Rattle.rules.specs.Lists.{all}
 use Rattle.rules.specs.Octets.{octetString}
 use Rattle.rules.specs.Tables.{Rec, cut, records, free?}
 use Rattle.rules.specs.Layout.{size, key}
 use Rattle.rules.specs.Frame.{Lent, lentOf, tables, changed}
 use Rattle.rules.specs.Sound.{soundTable, distinct, sound}
+use Rattle.rules.specs.Calls.{roomy}
 use Rattle.rules.specs.History.{Call, left, said, after, Event, history, octetsOnly, granted, hasPage, silence, entries, stand}
 use Rattle.rules.specs.History.{standing, freeTable, freeTables}
 use Rattle.rules.proofs.Lists.{and-parts, split, join, all-weaken, all-append}
@@ -33,6 +34,11 @@ pub record Held (L₀ L : Lent) (h : List Event) : Type 0 where
   pub sane : Sane L
   pub lengths : (k : Kind) → length (lentOf k L) ≡ length (lentOf k L₀)
   pub pages : (k : Kind) → hasPage k ≡ true → Agree (tables L k) (standing k h)
+
+-- room is a matter of lengths, and these stay
+pub same-room : {L₀ L : Lent} {h : List Event} → Held L₀ L h → (r l : List ℕ) → roomy (L .binds) (L .members) r l ≡ roomy (L₀ .binds) (L₀ .members) r l
+unfolding roomy
+same-room k r l = rw (k .lengths Binds, k .lengths Members)
 
 -- one more event is one more entry
 standing-event : (k : Kind) (e : Event) (h : List Event)

@@ -1,15 +1,15 @@
 -- From contracts to runs: where a contract says what the rules say, what callers see of calls that meet it is the history of a run, and the tables that
 -- they then hold are those after it. So condition 3, which is proved of runs, holds of what was seen.
 use mathlib.Core.Path.{subst₂}
-use Rattle.words.specs.Basics.{_≡_, refl, sym, ap, _∙_, true, List, ℕ}
-use Rattle.rules.specs.Types.{DeviceAddress, Binds, Members}
+use Rattle.words.specs.Basics.{_≡_, refl, sym, ap, _∙_, true, List, [], _∷_, ℕ}
+use Rattle.rules.specs.Types.{DeviceAddress}
 use Rattle.rules.specs.Lists.{all}
 use Rattle.rules.specs.Frame.{Lent}
 use Rattle.rules.specs.Host.{HostAnswer, admit, release}
-use Rattle.rules.specs.Calls.{roomy, Answer, answer, message}
+use Rattle.rules.specs.Calls.{Answer, answer, message}
 use Rattle.rules.specs.History.{Call, sends, admits, releases, Said, said, left, after, Event, history, octetsOnly, granted, memberCount, freeTables}
 use Rattle.rules.specs.Seen.{Contract, saidBy, saidByHost, Seen, begins, goes-on, calls, SeenHolds}
-use Rattle.rules.proofs.Run.{Held, held-run}
+use Rattle.rules.proofs.Run.{same-room, held-run}
 use Rattle.rules.proofs.Condition3.{condition3}
 
 -- A call that was told what the rules say, and left what they say
@@ -46,12 +46,6 @@ answer-of w = rw (w .told, w .leaves)
 
 -- Where every call that meets its contract is such a call
 
--- room is a matter of lengths, and these stayed
-room-before : {L₀ L : Lent} {h : List Event} → Held L₀ L h → (r l : List ℕ)
-    → roomy (L .binds) (L .members) r l ≡ true → roomy (L₀ .binds) (L₀ .members) r l ≡ true
-unfolding roomy
-room-before k r l e = rw (k .lengths Binds, k .lengths Members) at e
-
 module _ {Meets : Contract} (right : (L : Lent) (c : Call) (a : Said) (M : Lent) → Meets L c a M → AsRules L c a M) where
   -- what was seen is a run: the tables are those after it, and what was told is its history
   pub as-run : {L₀ L : Lent} {h : List Event} → Seen Meets L₀ h L → (after L₀ (calls h) ≡ L) × (history L₀ (calls h) ≡ h)
@@ -69,7 +63,7 @@ module _ {Meets : Contract} (right : (L : Lent) (c : Call) (a : Said) (M : Lent)
       let k = held-run L₀ f cs o in
       record {
         sound = H .sound;
-        delivered = λ {m} {r} {l} x q e us u. answer-of (right _ _ _ _ x) ∙ H .delivered m r l us q (room-before k r l e) u;
+        delivered = λ {m} {r} {l} x q e us u. answer-of (right _ _ _ _ x) ∙ H .delivered m r l us q (sym (same-room k r l) ∙ e) u;
         linked-units = H .linked-units;
         counts = λ {m} {r} {l} x o c g.
             let w = right _ _ _ _ x in
@@ -79,3 +73,9 @@ module _ {Meets : Contract} (right : (L : Lent) (c : Call) (a : Said) (M : Lent)
   -- condition 3 of what was seen
   pub seen-holds : {L₀ L : Lent} {h : List Event} → freeTables L₀ ≡ true → Seen Meets L₀ h L → all octetsOnly (calls h) ≡ true → SeenHolds Meets h L
   seen-holds {L₀} {L} {h} f s o = let k = as-run s in subst₂ (λ (h : List Event) (L : Lent). SeenHolds Meets h L) (k .1) (k .0) (run-holds L₀ f (calls h) o)
+
+-- What is seen leaves out no run: where a contract says just what the rules say, every run is seen
+pub run-seen : (L₀ : Lent) (cs : List Call) → Seen AsRules L₀ (history L₀ cs) (after L₀ cs)
+unfolding after history
+run-seen L₀ [] = begins
+run-seen L₀ (c ∷ cs) = goes-on (run-seen L₀ cs) (record { told = refl; leaves = refl })

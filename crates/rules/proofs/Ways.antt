@@ -1,5 +1,5 @@
 -- Which way a message goes, and what is known behind it: the one eliminator of `way` (document 01, Outcomes, "Order for a message").
-use Rattle.words.specs.Basics.{_≡_, refl, ap, Bool, true, false, not, false≢true, List, ℕ, eqb}
+use Rattle.words.specs.Basics.{_≡_, refl, ap, Bool, true, false, false≢true, List, ℕ, eqb}
 use Rattle.words.specs.Outcomes.{numberOf, valueOf}
 use Rattle.words.specs.declared.Decoded.the-variants.{Is, NotServed}
 use Rattle.words.specs.declared.Destination.{Destination}

@@ -14,6 +14,10 @@ use Rattle.rules.proofs.Lists.{and-parts, split, same-truth}
 unfoldable pub shaped : ℕ → Rec → Bool
 shaped k r = eqb (length r) k & octetString r
 
+pub shaped-length : (k : ℕ) (r : Rec) → shaped k r ≡ true → length r ≡ k
+unfolding shaped
+shaped-length k r h = eqb-true (length r) k (split h .0)
+
 pub shaped-octets : (k : ℕ) (r : Rec) → shaped k r ≡ true → octetString r ≡ true
 unfolding shaped
 shaped-octets k r h = split h .1

@@ -95,7 +95,8 @@ Entries = Kind → Entry
 unfoldable pub silence : Entries
 silence k = silent
 
--- The payload of a command, told in numbers: an address has 15 bits, and no bit beside them counts.
+-- The payload of a command, told in numbers. The number of a source, a group or a member has 15 bits, and the bit above them does not count; that of a
+-- bind's destination is its flag.
 
 -- the bind of Add Bind: its source's number, and all that follows as it came
 unfoldable pub bindSaid : List ℕ → Rec
