@@ -90,7 +90,7 @@ module _ (bs ms : List ℕ) (f : Fields) (l : List ℕ) {to : Destination} where
 within-limit : (L : Lent) → sound L ≡ true → (k : Kind) → length (lentOf k L) ≤ full k
 unfolding soundTable wholeRecords
 within-limit L s k =
-    let w : wholeRecords k (lentOf k L) ≡ true = split (split (sound-at L s k) .0) .0 in
+    let w : wholeRecords (size k) (most k) (lentOf k L) ≡ true = split (split (sound-at L s k) .0) .0 in
     leb-true (length (lentOf k L)) (full k) (split {a = eqb (length (lentOf k L) % size k) 0} w .1)
 
 pub deliverable : (L : Lent) (reply list : List ℕ) → roomy (L .binds) (L .members) reply list ≡ true → sound L ≡ true

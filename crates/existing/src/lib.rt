@@ -1,7 +1,7 @@
 // What exists (document 01, Tables). A device's address and a group's are two types, and a lookup takes only its own.
+use device_records::UNITS;
 use layouts::DEVICE;
 use layouts::GROUP;
-use layouts::HIGHEST_UNIT;
 use words::DeviceAddress;
 use words::GroupAddress;
 ghost use Rattle.words.specs.Basics.{_≡_, _+_, _≤_, length, take, drop};
@@ -28,13 +28,13 @@ pub fn is_admitted(devices: &[u8], device: DeviceAddress) -> bool
     has_address(devices, DEVICE, device.0)
 }
 
-// Is the record at `at` this device's, with this unit? "An admitted device has units 0 to its highest."
+// Is the record at `at` this device's, with this unit?
 fn unit_at(devices: &[u8], at: usize, device: DeviceAddress, unit: u8) -> bool
     requires { ⌜ at + size Devices ≤ length (now devices) ⌝ }
     ensures { λ r. ⌜ r ≡ passes (hasUnit device unit) (take (size Devices) (drop at (now (devices .entry)))) ⌝ }
 {
     let this = records::matches_at(devices, DEVICE, at, 0, &layouts::address_octets(device.0));
-    this & (unit <= devices[at + HIGHEST_UNIT])
+    this & device_records::in_set(devices, at + UNITS, unit)
 }
 
 // Does a record of the table have this device and unit?

@@ -1,41 +1,43 @@
 // When the fields of a record are in range (document 01, Tables): the rules of a table that is sound, and those of Add Bind and Add to Group.
+use device_records::RIGHTS;
+use device_records::UNITS;
+use device_records::ZERO;
 use words::DeviceAddress;
 use words::Fields;
 use words::Kind;
-ghost use Rattle.words.specs.Basics.{_≡_, _<_, eqb, length};
+ghost use Rattle.words.specs.Basics.{_≡_, _+_, _<_, _≤_, eqb, length, drop};
 ghost use Rattle.rules.specs.Types.{Devices, Groups};
 ghost use Rattle.rules.specs.Lists.{all};
-ghost use Rattle.rules.specs.Layout.{size, namePadding};
+ghost use Rattle.rules.specs.Layout.{size, unitsLength, namePadding};
 ghost use Rattle.rules.specs.Frame.{table};
 ghost use Rattle.rules.specs.Sound.{addressFits, deviceInRange, deviceFits, groupFits, destinationFits, bindFits, memberFits, fits};
 
 // Is this an address that a device or a group may have?
-fn address_fits(address: u16) -> bool
+pub fn address_fits(address: u16) -> bool
     ensures { λ r. ⌜ r ≡ addressFits address ⌝ }
 {
     (DeviceAddress::LOWEST <= address) & (address <= DeviceAddress::HIGHEST)
 }
 
-// Address, rights 0 or 1, highest unit 0 to 254.
-pub fn device_in_range(address: DeviceAddress, rights: u8, highest: u8) -> bool
-    ensures { λ r. ⌜ r ≡ deviceInRange address rights highest ⌝ }
+// Address, rights 0 or 1; "Unit 0 is always set and unit 255 never", in the set that begins at `from`.
+pub fn device_in_range(address: DeviceAddress, rights: u8, given: &[u8], from: usize) -> bool
+    requires { ⌜ from + unitsLength ≤ length (now given) ⌝ }
+    ensures { λ r. ⌜ r ≡ deviceInRange address rights (drop from (now (given .entry))) ⌝ }
 {
-    address_fits(address.0) & (rights <= 1) & (highest <= DeviceAddress::HIGHEST_UNIT)
+    let fits = address_fits(address.0);
+    let first = device_records::in_set(given, from, 0);
+    let last = device_records::in_set(given, from, DeviceAddress::ANY_UNIT);
+    fits & (rights <= 1) & first & !last
 }
 
+// .. and "one octet 0".
 fn device_fits(rec: &[u8]) -> bool
     requires { ⌜ length (now rec) ≡ size Devices ⌝ }
     ensures { λ r. ⌜ r ≡ deviceFits (now (rec .entry)) ⌝ }
 {
     let address = DeviceAddress(octets::word_at(rec, 0));
-    device_in_range(address, rec[layouts::RIGHTS], rec[layouts::HIGHEST_UNIT])
-}
-
-// An octet as a count.
-fn wide(octet: u8) -> usize
-    ensures { λ r. ⌜ r ≡ octet ⌝ }
-{
-    octet as usize
+    let in_range = device_in_range(address, rec[RIGHTS], rec, UNITS);
+    in_range & (rec[ZERO] == 0)
 }
 
 // "name 13 padded with 0x00": the octets behind the name.
@@ -43,7 +45,7 @@ fn padded(rec: &[u8]) -> bool
     requires { ⌜ 2 < length (now rec) ⌝ }
     ensures { λ r. ⌜ r ≡ all (λ o. eqb o 0x00) (namePadding (now (rec .entry))) ⌝ }
 {
-    let end = layouts::NAME + wide(rec[layouts::NAME_LENGTH]);
+    let end = layouts::NAME + octets::wide(rec[layouts::NAME_LENGTH]);
     if rec.len() < end {
         return true;
     }

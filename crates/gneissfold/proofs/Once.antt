@@ -5,7 +5,7 @@ use borrow.Fn.Kinds as K
 use denote.Triple.Clauses
 use Rattle.words.specs.Basics.{_≡_, sym, _∙_, now}
 use Rattle.rules.specs.Frame.{lent}
-use Rattle.gneissfold.specs.Numbers.{MessageTold, messageTold, HostTold, hostTold, CopyTold, copyTold, ReadTold, readTold}
+use Rattle.gneissfold.specs.Numbers.{MessageTold, messageTold, HostTold, hostTold, CarryTold, carryTold, CopyTold, copyTold, ReadTold, readTold}
 use Rattle.gneissfold.proofs.gneissfold_message
 use Rattle.gneissfold.proofs.gneissfold_message.Kinds as message-kinds
 use Rattle.gneissfold.proofs.gneissfold_message.Reads as message-reads
@@ -15,6 +15,9 @@ use Rattle.gneissfold.proofs.gneissfold_admit.Reads as admit-reads
 use Rattle.gneissfold.proofs.gneissfold_release
 use Rattle.gneissfold.proofs.gneissfold_release.Kinds as release-kinds
 use Rattle.gneissfold.proofs.gneissfold_release.Reads as release-reads
+use Rattle.gneissfold.proofs.gneissfold_carry_over
+use Rattle.gneissfold.proofs.gneissfold_carry_over.Kinds as carry-kinds
+use Rattle.gneissfold.proofs.gneissfold_carry_over.Reads as carry-reads
 use Rattle.gneissfold.proofs.gneissfold_copy
 use Rattle.gneissfold.proofs.gneissfold_copy.Kinds as copy-kinds
 use Rattle.gneissfold.proofs.gneissfold_copy.Reads as copy-reads
@@ -28,13 +31,17 @@ abbrev pub message-tells : (κs : Lfts 8) (a : World.ArgsD gneissfold_message.si
 message-tells κs a r s = messageTold r (now (s .1 .1 .1 .1 .1 .1 .1 .0))
     (lent (now (s .0)) (now (s .1 .0)) (now (s .1 .1 .0)) (now (s .1 .1 .1 .0))) (now (s .1 .1 .1 .1 .1 .0)) (now (s .1 .1 .1 .1 .1 .1 .0))
 
-abbrev pub admit-tells : (κs : Lfts 4) (a : World.ArgsD gneissfold_admit.signature κs) (r : World.ResD gneissfold_admit.signature κs)
-    (s : Clauses.AtExit (K.endedOf 4 admit-kinds.ps admit-kinds.r) κs) → HostTold
+abbrev pub admit-tells : (κs : Lfts 5) (a : World.ArgsD gneissfold_admit.signature κs) (r : World.ResD gneissfold_admit.signature κs)
+    (s : Clauses.AtExit (K.endedOf 5 admit-kinds.ps admit-kinds.r) κs) → HostTold
 admit-tells κs a r s = hostTold r (lent (now (s .0)) (now (a .1 .0)) (now (a .1 .1 .0)) (now (a .1 .1 .1 .0)))
 
 abbrev pub release-tells : (κs : Lfts 4) (a : World.ArgsD gneissfold_release.signature κs)
     (r : World.ResD gneissfold_release.signature κs) (s : Clauses.AtExit (K.endedOf 4 release-kinds.ps release-kinds.r) κs) → HostTold
 release-tells κs a r s = hostTold r (lent (now (s .0)) (now (s .1 .0)) (now (a .1 .1 .0)) (now (s .1 .1 .1 .0)))
+
+abbrev carry-tells : (κs : Lfts 2) (a : World.ArgsD gneissfold_carry_over.signature κs) (r : World.ResD gneissfold_carry_over.signature κs)
+    (s : Clauses.AtExit (K.endedOf 2 carry-kinds.ps carry-kinds.r) κs) → CarryTold
+carry-tells κs a r s = carryTold r (now (s .1 .0))
 
 abbrev copy-tells : (κs : Lfts 3) (a : World.ArgsD gneissfold_copy.signature κs) (r : World.ResD gneissfold_copy.signature κs)
     (s : Clauses.AtExit (K.endedOf 3 copy-kinds.ps copy-kinds.r) κs) → CopyTold
@@ -49,8 +56,8 @@ pub message-once : (κs : Lfts 8) (a : World.ArgsD gneissfold_message.signature 
     → message-reads.Post κs a r s → message-reads.Post κs a r' s' → message-tells κs a r s ≡ message-tells κs a r' s'
 message-once κs a r r' s s' p q = p ∙ sym q
 
-pub admit-once : (κs : Lfts 4) (a : World.ArgsD gneissfold_admit.signature κs) (r r' : World.ResD gneissfold_admit.signature κs)
-    (s s' : Clauses.AtExit (K.endedOf 4 admit-kinds.ps admit-kinds.r) κs)
+pub admit-once : (κs : Lfts 5) (a : World.ArgsD gneissfold_admit.signature κs) (r r' : World.ResD gneissfold_admit.signature κs)
+    (s s' : Clauses.AtExit (K.endedOf 5 admit-kinds.ps admit-kinds.r) κs)
     → admit-reads.Post κs a r s → admit-reads.Post κs a r' s' → admit-tells κs a r s ≡ admit-tells κs a r' s'
 admit-once κs a r r' s s' p q = p ∙ sym q
 
@@ -58,6 +65,11 @@ pub release-once : (κs : Lfts 4) (a : World.ArgsD gneissfold_release.signature 
     (s s' : Clauses.AtExit (K.endedOf 4 release-kinds.ps release-kinds.r) κs)
     → release-reads.Post κs a r s → release-reads.Post κs a r' s' → release-tells κs a r s ≡ release-tells κs a r' s'
 release-once κs a r r' s s' p q = p ∙ sym q
+
+pub carry-once : (κs : Lfts 2) (a : World.ArgsD gneissfold_carry_over.signature κs) (r r' : World.ResD gneissfold_carry_over.signature κs)
+    (s s' : Clauses.AtExit (K.endedOf 2 carry-kinds.ps carry-kinds.r) κs)
+    → carry-reads.Post κs a r s → carry-reads.Post κs a r' s' → carry-tells κs a r s ≡ carry-tells κs a r' s'
+carry-once κs a r r' s s' p q = p ∙ sym q
 
 pub copy-once : (κs : Lfts 3) (a : World.ArgsD gneissfold_copy.signature κs) (r r' : World.ResD gneissfold_copy.signature κs)
     (s s' : Clauses.AtExit (K.endedOf 3 copy-kinds.ps copy-kinds.r) κs)

@@ -34,12 +34,12 @@ module _ (κs : Lfts 8) (a : World.ArgsD gneissfold_message.signature κs) where
   abbrev message-call : Call
   message-call = sends (now (a .1 .1 .1 .1 .0)) (now (a .1 .1 .1 .1 .1 .0)) (now (a .1 .1 .1 .1 .1 .1 .0))
 
-module _ (κs : Lfts 4) (a : World.ArgsD gneissfold_admit.signature κs) where
+module _ (κs : Lfts 5) (a : World.ArgsD gneissfold_admit.signature κs) where
   abbrev admit-lent : Lent
   admit-lent = lent (now (a .0)) (now (a .1 .0)) (now (a .1 .1 .0)) (now (a .1 .1 .1 .0))
 
   abbrev admit-call : Call
-  admit-call = admits (device (a .1 .1 .1 .1 .0)) (a .1 .1 .1 .1 .1 .0) (a .1 .1 .1 .1 .1 .1 .0)
+  admit-call = admits (device (a .1 .1 .1 .1 .0)) (a .1 .1 .1 .1 .1 .0) (now (a .1 .1 .1 .1 .1 .1 .0))
 
 module _ (κs : Lfts 4) (a : World.ArgsD gneissfold_release.signature κs) where
   abbrev release-lent : Lent
@@ -53,8 +53,8 @@ pub data Meets (L : Lent) : Call → Said → Lent → Type 0 where
   by-message : (κs : Lfts 8) (a : World.ArgsD gneissfold_message.signature κs) (r : World.ResD gneissfold_message.signature κs)
       (s : Clauses.AtExit (K.endedOf 8 message-kinds.ps message-kinds.r) κs) → message-lent κs a ≡ L → message-reads.Post κs a r s
       → Meets L (message-call κs a) (saidBy (answerOf (message-tells κs a r s))) (message-tells κs a r s .tables)
-  by-admit : (κs : Lfts 4) (a : World.ArgsD gneissfold_admit.signature κs) (r : World.ResD gneissfold_admit.signature κs)
-      (s : Clauses.AtExit (K.endedOf 4 admit-kinds.ps admit-kinds.r) κs) → admit-lent κs a ≡ L → admit-reads.Post κs a r s
+  by-admit : (κs : Lfts 5) (a : World.ArgsD gneissfold_admit.signature κs) (r : World.ResD gneissfold_admit.signature κs)
+      (s : Clauses.AtExit (K.endedOf 5 admit-kinds.ps admit-kinds.r) κs) → admit-lent κs a ≡ L → admit-reads.Post κs a r s
       → Meets L (admit-call κs a) (saidByHost (hostAnswerOf (admit-tells κs a r s))) (admit-tells κs a r s .tables)
   by-release : (κs : Lfts 4) (a : World.ArgsD gneissfold_release.signature κs) (r : World.ResD gneissfold_release.signature κs)
       (s : Clauses.AtExit (K.endedOf 4 release-kinds.ps release-kinds.r) κs) → release-lent κs a ≡ L → release-reads.Post κs a r s
@@ -70,7 +70,7 @@ right L c a M (by-release κs b r s e p) = seen.as-release e {x = hostAnswerOf (
 pub as-run : {L₀ L : Lent} {h : List Event} → Seen Meets L₀ h L → (after L₀ (calls h) ≡ L) × (history L₀ (calls h) ≡ h)
 as-run s = seen.as-run right s
 
--- condition 3 of what was seen, from free tables on. That every message is a string of octets stays a premise: a contract speaks of lists of numbers, and
--- what a lent slice can hold is known where it is read, not from the contract.
+-- condition 3 of what was seen, from free tables on. That every message is a string of octets, and every set of units 32 of them, stays a premise: a contract
+-- speaks of lists of numbers, and what a lent slice can hold is known where it is read, not from the contract.
 pub seen-holds : {L₀ L : Lent} {h : List Event} → freeTables L₀ ≡ true → Seen Meets L₀ h L → all octetsOnly (calls h) ≡ true → SeenHolds Meets h L
 seen-holds f s o = seen.seen-holds right f s o

@@ -8,7 +8,9 @@ use Rattle.rules.specs.Frame.{Lent}
 use Rattle.rules.specs.Calls.{Answer, answer}
 use Rattle.rules.specs.Copy.{CopyAnswer, copyAnswer}
 use Rattle.rules.specs.Host.{HostAnswer, hostAnswer}
-use Rattle.gneissfold.specs.Numbers.{MessageTold, messageTold, ofMessage, HostTold, hostTold, ofHost, copyTold, ofCopy, readTold, ofReading, twelve}
+use Rattle.rules.specs.Carry.{CarryAnswer, carryAnswer}
+use Rattle.gneissfold.specs.Numbers.{MessageTold, messageTold, ofMessage, HostTold, hostTold, ofHost, carryTold, ofCarry, copyTold, ofCopy, readTold}
+use Rattle.gneissfold.specs.Numbers.{ofReading, twelve}
 
 pub message-tells : {o : Outcome} {L : Lent} {r l : List ℕ} {a : Answer} {n c : ℕ}
     → answer o L r l ≡ a → n ≡ numberOf o → c ≡ valueOf o → messageTold n c L r l ≡ ofMessage a
@@ -16,6 +18,9 @@ message-tells e p q = rw (p, q) (ap ofMessage e)
 
 pub host-tells : {o : Outcome} {L : Lent} {a : HostAnswer} {n : ℕ} → hostAnswer o L ≡ a → n ≡ numberOf o → hostTold n L ≡ ofHost a
 host-tells e p = rw p (ap ofHost e)
+
+pub carry-tells : {o : Outcome} {new : List ℕ} {a : CarryAnswer} {n : ℕ} → carryAnswer o new ≡ a → n ≡ numberOf o → carryTold n new ≡ ofCarry a
+carry-tells e p = rw p (ap ofCarry e)
 
 pub copy-tells : {o : Outcome} {room : List ℕ} {a : CopyAnswer} {n k : ℕ}
     → copyAnswer o room ≡ a → n ≡ numberOf o → k ≡ valueOf o → copyTold n k room ≡ ofCopy a

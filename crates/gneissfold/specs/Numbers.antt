@@ -7,6 +7,7 @@ use Rattle.rules.specs.Frame.{Lent}
 use Rattle.rules.specs.Calls.{Answer}
 use Rattle.rules.specs.Copy.{CopyAnswer}
 use Rattle.rules.specs.Host.{HostAnswer}
+use Rattle.rules.specs.Carry.{CarryAnswer}
 
 -- of a message: outcome number, reply length or recipient count, and every octet lent
 pub record MessageTold : Type 0 where
@@ -32,6 +33,17 @@ hostTold n L = record { number = n; tables = L }
 
 abbrev pub ofHost : HostAnswer → HostTold
 ofHost a = hostTold (numberOf (a .outcome)) (a .tables)
+
+-- of carrying over: the new table
+pub record CarryTold : Type 0 where
+  pub number : ℕ
+  pub new : List ℕ
+
+abbrev pub carryTold : ℕ → List ℕ → CarryTold
+carryTold n new = record { number = n; new = new }
+
+abbrev pub ofCarry : CarryAnswer → CarryTold
+ofCarry a = carryTold (numberOf (a .outcome)) (a .new)
 
 -- of a copy
 pub record CopyTold : Type 0 where

@@ -9,8 +9,9 @@ ghost use Rattle.rules.specs.Frame.{lent};
 ghost use Rattle.rules.specs.Calls.{message};
 ghost use Rattle.rules.specs.Copy.{copy};
 ghost use Rattle.rules.specs.Host.{admit, release};
+ghost use Rattle.rules.specs.Carry.{carryOver};
 ghost use Rattle.rules.specs.Message.{reading};
-ghost use Rattle.gneissfold.specs.Numbers.{messageTold, ofMessage, hostTold, ofHost, copyTold, ofCopy, readTold, ofReading, twelve};
+ghost use Rattle.gneissfold.specs.Numbers.{messageTold, ofMessage, hostTold, ofHost, carryTold, ofCarry, copyTold, ofCopy, readTold, ofReading, twelve};
 
 // Handles a message. `count` gets the reply's length or the number of recipients, and 0 where the paper states none.
 #[no_mangle]
@@ -34,7 +35,7 @@ pub extern "C" fn gneissfold_message(
     outcome.number()
 }
 
-// Admits a device with its rights and its units 0 to the highest.
+// Admits a device with its rights and its set of units.
 #[no_mangle]
 pub extern "C" fn gneissfold_admit(
     devices: &mut [u8],
@@ -43,10 +44,10 @@ pub extern "C" fn gneissfold_admit(
     members: &[u8],
     address: u16,
     rights: u8,
-    highest: u8,
+    units: &[u8; 32],
 ) -> u8
     ensures { λ r. ⌜ hostTold r (lent (now (devices .exit)) (now (binds .entry)) (now (groups .entry)) (now (members .entry)))
-        ≡ ofHost (admit (lent (now (devices .entry)) (now (binds .entry)) (now (groups .entry)) (now (members .entry))) (device address) rights highest) ⌝ }
+        ≡ ofHost (admit (lent (now (devices .entry)) (now (binds .entry)) (now (groups .entry)) (now (members .entry))) (device address) rights (now (units .entry))) ⌝ }
 {
     let outcome = hub::admit(
         devices,
@@ -55,7 +56,7 @@ pub extern "C" fn gneissfold_admit(
         members,
         DeviceAddress(address),
         rights,
-        highest,
+        units,
     );
     outcome.number()
 }
@@ -73,6 +74,15 @@ pub extern "C" fn gneissfold_release(
         ≡ ofHost (release (lent (now (devices .entry)) (now (binds .entry)) (now (groups .entry)) (now (members .entry))) (device address)) ⌝ }
 {
     let outcome = hub::release(devices, binds, groups, members, DeviceAddress(address));
+    outcome.number()
+}
+
+// Carries an old device table, of records of 4 octets, over into a new one.
+#[no_mangle]
+pub extern "C" fn gneissfold_carry_over(old: &[u8], new: &mut [u8]) -> u8
+    ensures { λ r. ⌜ carryTold r (now (new .exit)) ≡ ofCarry (carryOver (now (old .entry)) (now (new .entry))) ⌝ }
+{
+    let outcome = hub::carry_over(old, new);
     outcome.number()
 }
 

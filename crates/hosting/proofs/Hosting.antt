@@ -30,37 +30,37 @@ whole-table L e n k = whole-length k (lentOf k L) (whole-at L (passed e n) k)
 -- Admit
 
 -- each check of the order, those before it passed
-module _ (ds : List Rec) (d : DeviceAddress) (rights top : ℕ) where
-  pub out-of-range : deviceInRange d rights top ≡ false → OutOfRange ≡ admission ds d rights top
+module _ (ds : List Rec) (d : DeviceAddress) (rights : ℕ) (us : List ℕ) where
+  pub out-of-range : deviceInRange d rights us ≡ false → OutOfRange ≡ admission ds d rights us
   unfolding admission ask
   out-of-range f = rw f
 
-  module _ (f : deviceInRange d rights top ≡ true) where
-    pub already-there : admitted ds d ≡ true → AlreadyAdmitted ≡ admission ds d rights top
+  module _ (f : deviceInRange d rights us ≡ true) where
+    pub already-there : admitted ds d ≡ true → AlreadyAdmitted ≡ admission ds d rights us
     unfolding admission ask
     already-there a = rw (f, a)
 
-    pub no-room : admitted ds d ≡ false → someFree ds ≡ false → NoFreeRecord ≡ admission ds d rights top
+    pub no-room : admitted ds d ≡ false → someFree ds ≡ false → NoFreeRecord ≡ admission ds d rights us
     unfolding admission ask
     no-room a r = rw (f, a, r)
 
-    pub is-new : admitted ds d ≡ false → someFree ds ≡ true → Done 0 ≡ admission ds d rights top
+    pub is-new : admitted ds d ≡ false → someFree ds ≡ true → Done 0 ≡ admission ds d rights us
     unfolding admission ask
     is-new a r = rw (f, a, r)
 
-module _ (L : Lent) {b : Bool} (a : b ≡ sound L) (d : DeviceAddress) (rights top : ℕ) where
-  pub admit-unsound : not b ≡ true → hostAnswer Unsound L ≡ admit L d rights top
+module _ (L : Lent) {b : Bool} (a : b ≡ sound L) (d : DeviceAddress) (rights : ℕ) (us : List ℕ) where
+  pub admit-unsound : not b ≡ true → hostAnswer Unsound L ≡ admit L d rights us
   unfolding admit settled ask
   admit-unsound s = rw (failed a s)
 
   -- on sound tables, with the number n of the outcome o
-  module _ {o : Outcome} {n : ℕ} (s : not b ≡ false) (e : o ≡ admission (tables L Devices) d rights top) (k : n ≡ numberOf o) where
-    pub admit-refused : (n ≡ 0 → ⊥) → hostAnswer o L ≡ admit L d rights top
+  module _ {o : Outcome} {n : ℕ} (s : not b ≡ false) (e : o ≡ admission (tables L Devices) d rights us) (k : n ≡ numberOf o) where
+    pub admit-refused : (n ≡ 0 → ⊥) → hostAnswer o L ≡ admit L d rights us
     unfolding admit settled ask
     admit-refused z = rw (passed a s, sym e, ne-eqb (numberOf o) 0 (λ h. z (k ∙ h)))
 
-    pub admit-done : {r : Rec} {ds : List ℕ} → n ≡ 0 → r ≡ deviceRecord d rights top → ds ≡ written (size Devices) (store r) (L .devices)
-        → hostAnswer o (replaced Devices ds L) ≡ admit L d rights top
+    pub admit-done : {r : Rec} {ds : List ℕ} → n ≡ 0 → r ≡ deviceRecord d rights us → ds ≡ written (size Devices) (store r) (L .devices)
+        → hostAnswer o (replaced Devices ds L) ≡ admit L d rights us
     unfolding admit settled ask changed admitting also nothing written replaced
     admit-done z f h = rw (passed a s, sym e, eq-eqb (numberOf o) 0 (sym k ∙ z), h, f)
 

@@ -14,10 +14,10 @@ ghost use Rattle.rules.specs.Frame.{lent, table};
 ghost use Rattle.rules.specs.Host.{hostAnswer, admission, admit, namesDevice, releasing, release};
 
 // "Admit: 16, 20, 21, 22, else 0.", behind 16. It looks, and writes nothing.
-fn admission(devices: &[u8], address: DeviceAddress, rights: u8, highest: u8) -> Outcome
-    ensures { λ r. ⌜ r ≡ admission (table Devices (now (devices .entry))) address rights highest ⌝ }
+fn admission(devices: &[u8], address: DeviceAddress, rights: u8, units: &[u8; 32]) -> Outcome
+    ensures { λ r. ⌜ r ≡ admission (table Devices (now (devices .entry))) address rights (now (units .entry)) ⌝ }
 {
-    let fits = fitting::device_in_range(address, rights, highest);
+    let fits = fitting::device_in_range(address, rights, units, 0);
     let there = existing::is_admitted(devices, address);
     let room = records::has_room(devices, DEVICE);
     if !fits {
@@ -32,7 +32,7 @@ fn admission(devices: &[u8], address: DeviceAddress, rights: u8, highest: u8) ->
     Outcome::Done(0)
 }
 
-// Admits a device with its rights and its units 0 to the highest: its record goes to the first free place.
+// Admits a device with its rights and its set of units: its record goes to the first free place.
 pub fn admit(
     devices: &mut [u8],
     binds: &[u8],
@@ -40,17 +40,17 @@ pub fn admit(
     members: &[u8],
     address: DeviceAddress,
     rights: u8,
-    highest: u8,
+    units: &[u8; 32],
 ) -> Outcome
     ensures { λ r. ⌜ hostAnswer r (lent (now (devices .exit)) (now (binds .entry)) (now (groups .entry)) (now (members .entry)))
-        ≡ admit (lent (now (devices .entry)) (now (binds .entry)) (now (groups .entry)) (now (members .entry))) address rights highest ⌝ }
+        ≡ admit (lent (now (devices .entry)) (now (binds .entry)) (now (groups .entry)) (now (members .entry))) address rights (now (units .entry)) ⌝ }
 {
     if !soundness::sound(devices, binds, groups, members) {
         return Outcome::Unsound;
     }
-    let outcome = admission(devices, address, rights, highest);
+    let outcome = admission(devices, address, rights, units);
     if outcome.number() == 0 {
-        let record = layouts::device_record(address, rights, highest);
+        let record = device_records::device_record(address, rights, units);
         records::store(devices, DEVICE, &record);
     }
     outcome

@@ -36,7 +36,7 @@ module _ (κs : Lfts (admit.signature .lifetimes)) (a : World.ArgsD admit.signat
   admit-lent = lent (now (a .0)) (now (a .1 .0)) (now (a .1 .1 .0)) (now (a .1 .1 .1 .0))
 
   abbrev admit-call : Call
-  admit-call = admits (a .1 .1 .1 .1 .0) (a .1 .1 .1 .1 .1 .0) (a .1 .1 .1 .1 .1 .1 .0)
+  admit-call = admits (a .1 .1 .1 .1 .0) (a .1 .1 .1 .1 .1 .0) (now (a .1 .1 .1 .1 .1 .1 .0))
 
 module _ (κs : Lfts (release.signature .lifetimes)) (a : World.ArgsD release.signature κs) where
   abbrev release-lent : Lent
@@ -67,7 +67,7 @@ right L c a M (by-release κs b r s e p) = seen.as-release e {x = release-answer
 pub as-run : {L₀ L : Lent} {h : List Event} → Seen Meets L₀ h L → (after L₀ (calls h) ≡ L) × (history L₀ (calls h) ≡ h)
 as-run s = seen.as-run right s
 
--- condition 3 of what was seen, from free tables on. That every message is a string of octets stays a premise: a contract speaks of lists of numbers, and
--- what a lent slice can hold is known where it is read, not from the contract.
+-- condition 3 of what was seen, from free tables on. That every message is a string of octets, and every set of units 32 of them, stays a premise: a contract
+-- speaks of lists of numbers, and what a lent slice can hold is known where it is read, not from the contract.
 pub seen-holds : {L₀ L : Lent} {h : List Event} → freeTables L₀ ≡ true → Seen Meets L₀ h L → all octetsOnly (calls h) ≡ true → SeenHolds Meets h L
 seen-holds f s o = seen.seen-holds right f s o

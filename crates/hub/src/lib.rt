@@ -1,5 +1,6 @@
 // The public calls of the bind and group part (document 01), and here the one for a message: read once, decided by all that is lent; then its
 // command is served, or its recipients are listed.
+pub use carrying::carry_over;
 pub use copying::copy;
 pub use hosting::admit;
 pub use hosting::release;

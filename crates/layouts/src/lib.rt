@@ -1,5 +1,5 @@
-// The records (document 01, Tables): how many octets a record of each table has, how many there may be, and its fields, read and built. No other crate
-// knows the place of a field.
+// The records (document 01, Tables): how many octets a record of each table has, how many there may be, and its fields, read and built; those of a device
+// are `device_records`'s. No other crate knows the place of a field.
 mod binds;
 mod members;
 
@@ -29,10 +29,10 @@ use words::Kind;
 ghost use Rattle.words.specs.Basics.{_≡_, _+_, _^_, _<_, _≤_, length};
 ghost use Rattle.rules.specs.Octets.{octets};
 ghost use Rattle.rules.specs.Units.{unitNumber, unitAt};
-ghost use Rattle.rules.specs.Layout.{size, most, key, deviceRecord, groupRecord, longestName};
+ghost use Rattle.rules.specs.Layout.{size, most, key, groupRecord, longestName};
 
 // The octets of a record in each table.
-pub const DEVICE: usize = 4;
+pub const DEVICE: usize = 36;
 
 pub const BIND: usize = 8;
 
@@ -52,11 +52,7 @@ pub const MOST_MEMBERS: usize = 128;
 // The octets of an address.
 pub const ADDRESS: usize = 2;
 
-// Where rights and highest unit stand in a device's record, name length and name in a group's, the device in a member's.
-pub const RIGHTS: usize = 2;
-
-pub const HIGHEST_UNIT: usize = 3;
-
+// Where name length and name stand in a group's record, the device in a member's.
 pub const NAME_LENGTH: usize = 2;
 
 pub const NAME: usize = 3;
@@ -122,18 +118,6 @@ pub fn unit_at(s: &[u8], at: usize) -> u32
     ensures { λ r. ⌜ (r ≡ unitAt at (now (s .entry))) × (r < 2 ^ 24) ⌝ }
 {
     unit_number(DeviceAddress(octets::word_at(s, at)), s[at + 2])
-}
-
-// The record of a device: address, rights, highest unit.
-pub fn device_record(address: DeviceAddress, rights: u8, highest: u8) -> [u8; 4]
-    ensures { λ r. ⌜ r ≡ deviceRecord address rights highest ⌝ }
-{
-    [
-        octets::high(address.0),
-        octets::low(address.0),
-        rights,
-        highest,
-    ]
 }
 
 // The record of a new group: its address, then name length and name as they came, padded with 0x00.

@@ -7,7 +7,7 @@ use Rattle.rules.specs.Frame.{Lent, lent}
 use Rattle.rules.specs.Calls.{Answer, message}
 use Rattle.report.specs.Text.{answerText, shortText}
 
--- where each table but the first begins, and how long all of them are: 256, 512, 256 and 640 octets
+-- where each table but the first begins, and how long all of them are: 2,304, 512, 256 and 640 octets
 
 abbrev pub atBinds : ℕ
 atBinds = full Devices
@@ -33,6 +33,6 @@ given s =
 unfoldable pub answered : List ℕ → Answer
 answered s = message (given s) (drop allTables s) (replicate longest 0) (replicate listLength 0)
 
--- "Input under 1,664 octets prints `short input` alone."
+-- "input under 3,712 is short" (document 02, request 2): it "prints `short input` alone"
 unfoldable pub printed : List ℕ → List ℕ
 printed s = cond (ltb (length s) allTables) shortText (answerText (answered s .outcome) (answered s .reply) (answered s .list))

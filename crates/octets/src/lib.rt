@@ -1,7 +1,7 @@
 // Octets and 16-bit words. A word's top bit is a flag and the rest a number (document 01, Tables); runs of octets are compared, tested, written and filled.
-ghost use Rattle.words.specs.Basics.{_≡_, _+_, _*_, _/_, _%_, _^_, _<_, _≤_, eqb, length, take, drop, replicate, sets};
+ghost use Rattle.words.specs.Basics.{_≡_, _+_, _*_, _/_, _%_, _<_, _≤_, eqb, length, take, drop, replicate, sets};
 ghost use Rattle.rules.specs.Lists.{all};
-ghost use Rattle.rules.specs.Octets.{word, starts, over};
+ghost use Rattle.rules.specs.Octets.{bit, word, starts, over};
 
 // Two octets, most significant first.
 pub fn join(hi: u8, lo: u8) -> u16
@@ -59,9 +59,16 @@ pub fn low_seven(o: u8) -> u8
 // Bit k of an octet.
 pub fn bit(octet: u8, k: u8) -> u8
     requires { ⌜ k < 8 ⌝ }
-    ensures { λ r. ⌜ r ≡ octet / 2 ^ k % 2 ⌝ }
+    ensures { λ r. ⌜ r ≡ bit k octet ⌝ }
 {
     octet >> k & 1
+}
+
+// An octet as a count.
+pub fn wide(octet: u8) -> usize
+    ensures { λ r. ⌜ r ≡ octet ⌝ }
+{
+    octet as usize
 }
 
 // The word at `at`.

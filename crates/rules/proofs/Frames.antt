@@ -30,14 +30,14 @@ pub every-of : (p : Kind → Bool) → ((k : Kind) → p k ≡ true) → everyTa
 unfolding everyTable
 every-of p h = all-of p h kinds
 
--- of every table: a record has octets, a full table 640 at most, and a record its key
-pub shapes : (k : Kind) → (0 < size k) × (full k ≤ 640) × (key k ≤ size k)
+-- of every table: a record has octets, a full table 2,304 at most, and a record its key
+pub shapes : (k : Kind) → (0 < size k) × (full k ≤ 2304) × (key k ≤ size k)
 unfolding everyTable all _&_
 shapes k =
-    let h = every-at (λ k. leb 1 (size k) & leb (full k) 640 & leb (key k) (size k)) refl k in
+    let h = every-at (λ k. leb 1 (size k) & leb (full k) 2304 & leb (key k) (size k)) refl k in
     let a = split h in
     let b = split (a .0) in
-    (leb-true 1 (size k) (b .0), leb-true (full k) 640 (b .1), leb-true (key k) (size k) (a .1))
+    (leb-true 1 (size k) (b .0), leb-true (full k) 2304 (b .1), leb-true (key k) (size k) (a .1))
 
 -- one table of a frame by kind
 pub lent-by : (t : Kind → List ℕ) (k : Kind) → lentOf k (lentBy t) ≡ t k

@@ -1,11 +1,11 @@
 -- The host calls: admit and release, where they do something, change the tables in order and as the history's entries say.
-use Rattle.words.specs.Basics.{_≡_, refl, _∙_, Bool, true, false, cond, not, _||_, ℕ, _<_, arith, eqb, not-true, eq-eqb}
+use Rattle.words.specs.Basics.{_≡_, refl, _∙_, Bool, true, false, cond, not, _||_, List, ℕ, _<_, arith, eqb, not-true, eq-eqb}
 use Rattle.words.specs.Outcomes.{numberOf, valueOf}
 use Rattle.rules.specs.Types.{DeviceAddress, Devices, Binds, Members, Outcome, Done, Unsound, OutOfRange, AlreadyAdmitted, NoFreeRecord, NotAdmitted}
 use Rattle.rules.specs.Lists.{ask, _&_}
 use Rattle.rules.specs.Octets.{octets}
 use Rattle.rules.specs.Tables.{Rec, used, someFree, addressed, none, wipe}
-use Rattle.rules.specs.Layout.{size, partIs, deviceRecord, bindSource, boundDevice, toGroup, memberDevice, fromDevice, toDevice}
+use Rattle.rules.specs.Layout.{size, unitsLength, partIs, deviceRecord, bindSource, boundDevice, toGroup, memberDevice, fromDevice, toDevice}
 use Rattle.rules.specs.Frame.{Lent, tables, also, Effect, nothing}
 use Rattle.rules.specs.Exists.{admitted}
 use Rattle.rules.specs.Sound.{deviceInRange, deviceFits, fits, soundTable, sound}
@@ -35,23 +35,23 @@ module _ {L : Lent} {x : Effect} {e : Entries} where
 
 -- Admit
 
-module _ (L : Lent) (d : DeviceAddress) (a u : ℕ) where
-  told-admit : Told (admitting d a u) (entries (admits d a u))
+module _ (L : Lent) (d : DeviceAddress) (a : ℕ) (us : List ℕ) where
+  told-admit : Told (admitting d a us) (entries (admits d a us))
   unfolding admitting entries
   told-admit = told-also Devices says-added told-nothing
 
-  ok-admit : deviceInRange d a u ≡ true → not (admitted (tables L Devices) d) ≡ true → someFree (tables L Devices) ≡ true → Ok L (admitting d a u)
+  ok-admit : shaped unitsLength us ≡ true → deviceInRange d a us ≡ true → not (admitted (tables L Devices) d) ≡ true → someFree (tables L Devices) ≡ true → Ok L (admitting d a us)
   unfolding admitting admitted addressed fits spares nothing also deviceRecord octets
-  ok-admit h n f =
-      let i = device-fields d a u h in
-      let new = order-store Devices L (deviceRecord d a u) (octets (d .0)) refl f (device-stored d a u i.0 i.1 i.2) (device-meets d a u h) (not-true _ n) in
+  ok-admit s h n f =
+      let i = device-fields d a us h in
+      let new = order-store Devices L (deviceRecord d a us) (octets (d .0)) refl f (device-stored d a us (omega arith) (omega arith) s) (device-meets d a us h) (not-true _ n) in
       ok-adding L _ (orders-only Devices L _ new) (λ r. refl) (λ r. refl)
 
-  pub hosted-admit : Hosted L (admitting d a u) (entries (admits d a u)) (admit L d a u .outcome)
+  pub hosted-admit : shaped unitsLength us ≡ true → Hosted L (admitting d a us) (entries (admits d a us)) (admit L d a us .outcome)
   unfolding settled admit admission
-  hosted-admit =
-      hosted-ask Unsound refl (λ s. hosted-ask OutOfRange refl (λ h. hosted-ask AlreadyAdmitted refl (λ n. hosted-ask NoFreeRecord refl (λ f.
-      granting (ok-admit h n f) told-admit))))
+  hosted-admit s =
+      hosted-ask Unsound refl (λ t. hosted-ask OutOfRange refl (λ h. hosted-ask AlreadyAdmitted refl (λ n. hosted-ask NoFreeRecord refl (λ f.
+      granting (ok-admit s h n f) told-admit))))
 
 -- Release
 
@@ -108,9 +108,9 @@ unfolding ask
 value-ask true o rest h g = g
 value-ask false o rest h g = h
 
-pub value-admit : (L : Lent) (d : DeviceAddress) (a u : ℕ) → valueOf (admit L d a u .outcome) ≡ 0
+pub value-admit : (L : Lent) (d : DeviceAddress) (a : ℕ) (us : List ℕ) → valueOf (admit L d a us .outcome) ≡ 0
 unfolding settled admit admission
-value-admit L d a u =
+value-admit L d a us =
     value-ask _ Unsound _ refl (value-ask _ OutOfRange _ refl (value-ask _ AlreadyAdmitted _ refl (value-ask _ NoFreeRecord (Done 0) refl refl)))
 
 pub value-release : (L : Lent) (d : DeviceAddress) → valueOf (release L d .outcome) ≡ 0

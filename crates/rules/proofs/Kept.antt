@@ -4,7 +4,7 @@ use Rattle.rules.specs.Types.{DeviceAddress, GroupAddress, Kind, Devices
 use Rattle.rules.specs.Lists.{any, all, _&_}
 use Rattle.rules.specs.Octets.{octetString}
 use Rattle.rules.specs.Tables.{Rec, records, used, addressed, Change, none, wipe, change}
-use Rattle.rules.specs.Layout.{size, key, bindSource, bindSourceUnit, bindFrom, toGroup, boundGroup, boundDevice, bindUnit, bindTo}
+use Rattle.rules.specs.Layout.{size, most, key, bindSource, bindSourceUnit, bindFrom, toGroup, boundGroup, boundDevice, bindUnit, bindTo}
 use Rattle.rules.specs.Layout.{memberGroup, memberDevice, memberUnit}
 use Rattle.rules.specs.Frame.{Lent, lentOf, tables, Effect, nothing, changed}
 use Rattle.rules.specs.Exists.{hasUnit, unitExists, groupExists}
@@ -61,11 +61,11 @@ order-wipe k L q = record { room = tt; shape = tt; meets = tt; alone = tt }
 
 -- Then soundness is kept
 
-pub whole-length : (k : Kind) (t : List ℕ) → wholeRecords k t ≡ true → length t % size k ≡ 0
+pub whole-length : (k : Kind) (t : List ℕ) → wholeRecords (size k) (most k) t ≡ true → length t % size k ≡ 0
 unfolding wholeRecords
 whole-length k t h = eqb-true (length t % size k) 0 (split h .0)
 
-pub whole-at : (L : Lent) → sound L ≡ true → (k : Kind) → wholeRecords k (lentOf k L) ≡ true
+pub whole-at : (L : Lent) → sound L ≡ true → (k : Kind) → wholeRecords (size k) (most k) (lentOf k L) ≡ true
 unfolding soundTable
 whole-at L s k = split (split (sound-at L s k) .0) .0
 
@@ -90,7 +90,7 @@ module _ (L : Lent) (x : Effect) (o : Ok L x) (S : Sane L) where
   all-shaped : (k : Kind) → all (shaped (size k)) (tables L k) ≡ true
   all-shaped k = shaped-records (size k) (lentOf k L) (S .octets k)
 
-  whole-kept : (k : Kind) → wholeRecords k (lentOf k (changed x L)) ≡ true
+  whole-kept : (k : Kind) → wholeRecords (size k) (most k) (lentOf k (changed x L)) ≡ true
   unfolding wholeRecords
   whole-kept k = rw (length-changed k) (whole-at L (S .sound) k)
 

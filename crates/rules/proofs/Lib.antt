@@ -2,6 +2,7 @@
 pub mod Lists
 pub mod Records
 pub mod Words
+pub mod UnitSets
 pub mod Numbers
 pub mod Changes
 pub mod Distinct
@@ -13,6 +14,7 @@ pub mod Standing
 pub mod Stored
 pub mod Granted
 pub mod Hosted
+pub mod Carried
 pub mod Ways
 pub mod Steps
 pub mod Run
@@ -33,6 +35,7 @@ pub mod RowsOfBinds
 pub mod RowsOfGroups
 pub mod RowsOfCommands
 pub mod RowsOfCalls
+pub mod RowsOfUnits
 pub mod Rows
 pub mod Worked
 pub mod NotVacuous

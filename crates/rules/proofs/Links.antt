@@ -1,11 +1,11 @@
 -- What the tables answer and what the history says: the recipients are the linked units, and the units that exist are the existing ones.
-use Rattle.words.specs.Basics.{_≡_, refl, sym, ap, _∙_, Bool, true, false, cond, not, _&&_, _||_, List, [], _∷_, ℕ, arith, eqb, leb}
+use Rattle.words.specs.Basics.{_≡_, refl, sym, ap, _∙_, Bool, true, false, cond, not, _&&_, _||_, List, [], _∷_, ℕ, arith, eqb}
 use Rattle.rules.specs.Types.{DeviceAddress, GroupAddress, Fields, BindAddress, Devices, Binds, Members}
 use Rattle.rules.specs.Lists.{any, all, keep, has, _&_}
 use Rattle.rules.specs.Octets.{octetString}
 use Rattle.rules.specs.Units.{rising}
 use Rattle.rules.specs.Tables.{Rec, used}
-use Rattle.rules.specs.Layout.{size, deviceAddress, deviceHighest, toGroup, boundGroup, bindTo, memberGroup, memberNumber, inGroup}
+use Rattle.rules.specs.Layout.{size, inSet, deviceAddress, deviceUnits, toGroup, boundGroup, bindTo, memberGroup, memberNumber, inGroup}
 use Rattle.rules.specs.Frame.{Lent, tables}
 use Rattle.rules.specs.Message.{fields, sender}
 use Rattle.rules.specs.Exists.{hasUnit, unitExists}
@@ -104,7 +104,7 @@ module _ (L₀ L : Lent) (h : List Event) (k : Held L₀ L h) where
   unfolding unitExists existing hasUnit
   exists d u =
       ap (λ w. cond (eqb (d .0) 0) (eqb u 0) w)
-      (any-alike (shaped (size Devices)) _ (λ x. eqb (deviceAddress x .0) (d .0) & leb u (deviceHighest x))
+      (any-alike (shaped (size Devices)) _ (λ x. eqb (deviceAddress x .0) (d .0) & inSet u (deviceUnits x))
       (λ x s. rw (addressed-word (size Devices) (d .0) x (omega arith) s)) (used (tables L Devices))
       (all-used (shaped (size Devices)) (tables L Devices) (shaped-records (size Devices) (L .devices) (k .sane .octets Devices)))
       ∙ agree-any (tables L Devices) _ devices _)

@@ -1,6 +1,6 @@
 -- The order of outcomes (document 01, Outcomes): the checks of each call as the paper lists them, and that the first which fails gives the outcome,
 -- whatever is wrong behind it. The rows with several faults (`order` of `RowsOfRefusals`, and those of `RowsOfCalls`) are inputs that show it.
-use Rattle.words.specs.Basics.{_≡_, refl, sym, Bool, true, false, not, false≢true, List, [], _∷_, _++_, ℕ}
+use Rattle.words.specs.Basics.{_≡_, refl, sym, Bool, true, false, not, false≢true, List, [], _∷_, _++_, ℕ, _*_, eqb, length}
 use Rattle.words.specs.Names.{noFields}
 use Rattle.words.specs.declared.Decoded.the-variants.{Is, NotServed}
 use Rattle.words.specs.declared.Destination.{Destination}
@@ -17,6 +17,7 @@ use Rattle.rules.specs.Sound.{deviceInRange, sound}
 use Rattle.rules.specs.Payloads.{command}
 use Rattle.rules.specs.Copy.{copyFits, CopyAnswer, copyAnswer, copy}
 use Rattle.rules.specs.Host.{settled, admission, admit, release}
+use Rattle.rules.specs.Carry.{oldSound, carrying, carryOver}
 use Rattle.rules.specs.Calls.{roomy, toMany, asking, wayTo, wayOn, way, follow, message}
 
 -- a check: does it pass, and the outcome where it does not
@@ -61,13 +62,17 @@ messageChecks L m r l =
     ∷ destinationChecks (tables L Devices) (tables L Groups) f (destination f)
 
 -- "Admit: 16, 20, 21, 22, else 0."
-abbrev pub admitChecks : Lent → DeviceAddress → ℕ → ℕ → List Check
-admitChecks L d rights top =
+abbrev pub admitChecks : Lent → DeviceAddress → ℕ → List ℕ → List Check
+admitChecks L d rights us =
     check (sound L) Unsound
-    ∷ check (deviceInRange d rights top) OutOfRange
+    ∷ check (deviceInRange d rights us) OutOfRange
     ∷ check (not (admitted (tables L Devices) d)) AlreadyAdmitted
     ∷ check (someFree (tables L Devices)) NoFreeRecord
     ∷ []
+
+-- carrying over: "16 .., then 17" (document 02, request 2)
+abbrev pub carryChecks : List ℕ → List ℕ → List Check
+carryChecks old new = check (oldSound old) Unsound ∷ check (eqb (length new) (9 * length old)) NoRoom ∷ []
 
 -- "Release: 16, 23, else 0."
 abbrev pub releaseChecks : Lent → DeviceAddress → List Check
@@ -132,10 +137,14 @@ module _ (L : Lent) (m r l : List ℕ) where
 hosted : {cs : List Check} {rest : Outcome} (b : Bool) (o : Outcome) → First (λ o. o) rest cs → First (λ o. o) (ask b o rest) (check b o ∷ cs)
 hosted = one-more (λ o. o) (λ o. o) (λ o. refl)
 
-pub admit-order : (L : Lent) (d : DeviceAddress) (rights top : ℕ) → FirstOf (admitChecks L d rights top) (admit L d rights top .outcome)
+pub admit-order : (L : Lent) (d : DeviceAddress) (rights : ℕ) (us : List ℕ) → FirstOf (admitChecks L d rights us) (admit L d rights us .outcome)
 unfolding admit admission settled
-admit-order L d rights top =
+admit-order L d rights us =
     first-of (λ o. o) (hosted _ Unsound (hosted _ OutOfRange (hosted _ AlreadyAdmitted (hosted _ NoFreeRecord last))))
+
+pub carry-order : (old new : List ℕ) → FirstOf (carryChecks old new) (carryOver old new .outcome)
+unfolding carryOver carrying
+carry-order old new = first-of (λ o. o) (hosted _ Unsound (hosted _ NoRoom last))
 
 pub release-order : (L : Lent) (d : DeviceAddress) → FirstOf (releaseChecks L d) (release L d .outcome)
 unfolding release settled

@@ -17,10 +17,11 @@ use Rattle.rules.proofs.RowsOfBinds as binds
 use Rattle.rules.proofs.RowsOfGroups as groups
 use Rattle.rules.proofs.RowsOfCommands as commands
 use Rattle.rules.proofs.RowsOfCalls as calls
+use Rattle.rules.proofs.RowsOfUnits as units
 use Rattle.rules.proofs.Samples.{Row, row, AsTold, run, lending, filled, device-table, D3, D4, D5, named, threeMembers, holding, three-one, four-one}
 use Rattle.rules.proofs.Samples.{to-group-one, curtains, bindManagement, letter, request, Sent, told, answerTo, reply}
 
--- devices 3 (rights 1, highest 2), 4 (0, 2), 5 (0, 1); group 1 named "S"; members 5:01, 4:02, 3:01 in that order; these binds
+-- devices 3 (rights 1, units 0 to 2), 4 (0, 0 to 2), 5 (0, 0 and 1); group 1 named "S"; members 5:01, 4:02, 3:01 in that order; these binds
 abbrev start : List ℕ → Lent
 start bs = holding (device-table 64 (D3 ++ D4 ++ D5)) (filled 512 bs) (filled 256 (named 1 (0x53 ∷ []))) (filled 640 threeMembers)
 
@@ -138,6 +139,10 @@ pub record AllRows : Type 0 where
   pub copies : AsTold calls.copyOf calls.copies
   pub admissions : AsTold calls.admitOf calls.admissions
   pub releases : AsTold calls.releaseOf calls.releases
+  pub units-with-gaps : AsTold answerTo units.units-with-gaps
+  pub gaps-in-commands : AsTold answerTo units.gaps-in-commands
+  pub carried-over : AsTold units.carryOf units.carried-over
+  pub not-carried : AsTold units.carryOf units.not-carried
 
 pub as-told : AllRows
 unfolding whole readBack
@@ -175,4 +180,8 @@ as-told = record {
   copies = refl;
   admissions = refl;
   releases = refl;
+  units-with-gaps = refl;
+  gaps-in-commands = refl;
+  carried-over = refl;
+  not-carried = refl;
 }

@@ -7,7 +7,8 @@ use Rattle.rules.specs.Frame.{Lent}
 use Rattle.rules.specs.Message.{readingOf}
 use Rattle.rules.specs.Copy.{CopyAnswer, copyAnswer, copy}
 use Rattle.rules.specs.Host.{HostAnswer, hostAnswer, admit, release}
-use Rattle.rules.proofs.Samples.{Row, row, run, lending, filled, known, device-table, D1, D3, D4, D5, groups, members, holding, house}
+use Rattle.rules.proofs.Samples.{Row, row, run, lending, filled, units, only-zero, zero-to-one, zero-to-two, zero-to-254, known}
+use Rattle.rules.proofs.Samples.{device-table, D1, D3, D4, D5, groups, members, holding, house}
 
 -- a message with every reserved bit set, transport 0xAA 0xBB, and three octets of payload
 abbrev full : List ℕ
@@ -101,13 +102,13 @@ pub record Admitting : Type 0 where
   pub tables : Lent
   pub address : ℕ
   pub rights : ℕ
-  pub highest : ℕ
+  pub units : List ℕ
 
-abbrev admitting : Lent → ℕ → ℕ → ℕ → Admitting
-admitting L d r h = record { tables = L; address = d; rights = r; highest = h }
+abbrev admitting : Lent → ℕ → ℕ → List ℕ → Admitting
+admitting L d r us = record { tables = L; address = d; rights = r; units = us }
 
 abbrev pub admitOf : Admitting → HostAnswer
-admitOf x = admit (x .tables) (device (x .address)) (x .rights) (x .highest)
+admitOf x = admit (x .tables) (device (x .address)) (x .rights) (x .units)
 
 abbrev plain : Lent
 plain = house []
@@ -117,11 +118,11 @@ abbrev four-devices : List ℕ
 four-devices = D1 ++ D3 ++ D4 ++ D5
 
 -- .. and this one
-abbrev admits : ℕ → ℕ → ℕ → Row Admitting HostAnswer
-admits d r h = row (admitting plain d r h) (hosted 0 (holding (four-devices ++ known d r h) (filled 48 []) groups members))
+abbrev admits : ℕ → ℕ → List ℕ → Row Admitting HostAnswer
+admits d r us = row (admitting plain d r us) (hosted 0 (holding (four-devices ++ known d r us) (filled 48 []) groups members))
 
-abbrev not-admitted : Lent → ℕ → ℕ → ℕ → ℕ → Row Admitting HostAnswer
-not-admitted L d r h o = row (admitting L d r h) (hosted o L)
+abbrev not-admitted : Lent → ℕ → ℕ → List ℕ → ℕ → Row Admitting HostAnswer
+not-admitted L d r us o = row (admitting L d r us) (hosted o L)
 
 -- no free record; one that is cut off behind it, so that the tables are not sound
 
@@ -141,22 +142,30 @@ absent-group = grouped (run 5 0x00_03_00_04_02)
 
 abbrev pub admissions : List (Row Admitting HostAnswer)
 admissions =
-    admits 6 0 2
-    ∷ admits 2 1 0
-    ∷ admits 0x7FFE 0 254
-    -- 20: D'0000, D'7FFF, the top bit; rights 2; highest unit 255
-    ∷ not-admitted plain 0 1 2 20
-    ∷ not-admitted plain 0x7FFF 1 2 20
-    ∷ not-admitted plain 0x8006 1 2 20
-    ∷ not-admitted plain 6 2 2 20
-    ∷ not-admitted plain 6 1 255 20
+    admits 6 0 zero-to-two
+    ∷ admits 2 1 only-zero
+    ∷ admits 0x7FFE 0 zero-to-254
+    -- with gaps: units 0, 1, 2 and 9; 0 and 254
+    ∷ admits 6 0 (units (0x07 ∷ 0x02 ∷ []))
+    ∷ admits 6 1 (0x01 ∷ replicate 30 0x00 ++ 0x40 ∷ [])
+    -- 20: D'0000, D'7FFF, the top bit; rights 2; unit 0 not set, with units 1, 2 and 9, with unit 7 and with none; unit 255 set
+    ∷ not-admitted plain 0 1 zero-to-two 20
+    ∷ not-admitted plain 0x7FFF 1 zero-to-two 20
+    ∷ not-admitted plain 0x8006 1 zero-to-two 20
+    ∷ not-admitted plain 6 2 zero-to-two 20
+    ∷ not-admitted plain 6 1 (units (0x06 ∷ 0x02 ∷ [])) 20
+    ∷ not-admitted plain 6 1 (units (0x80 ∷ [])) 20
+    ∷ not-admitted plain 6 1 (units []) 20
+    ∷ not-admitted plain 6 1 (0x01 ∷ replicate 30 0x00 ++ 0x80 ∷ []) 20
+    ∷ not-admitted plain 6 1 (replicate 32 0xFF) 20
     -- in the paper's order four faults, and then one less each: 16, 20, 21, 22
-    ∷ not-admitted unsound 3 2 1 16
-    ∷ not-admitted full-of-devices 3 2 1 20
-    ∷ not-admitted full-of-devices 3 1 1 21
-    ∷ not-admitted full-of-devices 6 1 1 22
-    ∷ not-admitted plain 3 1 1 21
-    ∷ not-admitted absent-group 6 1 1 16
+    ∷ not-admitted unsound 3 2 zero-to-one 16
+    ∷ not-admitted full-of-devices 3 2 zero-to-one 20
+    ∷ not-admitted full-of-devices 3 1 zero-to-one 21
+    ∷ not-admitted full-of-devices 6 1 zero-to-one 22
+    ∷ not-admitted plain 3 1 zero-to-one 21
+    ∷ not-admitted absent-group 6 1 zero-to-one 16
+    ∷ not-admitted full-of-devices 3 1 (units []) 20
     ∷ []
 
 -- release this device from these tables

@@ -2,7 +2,7 @@
 use Rattle.words.specs.Basics.{List, [], _∷_, _++_, ℕ, zero, suc, _+_, replicate}
 use Rattle.rules.specs.Frame.{Lent}
 use Rattle.rules.specs.Calls.{Answer}
-use Rattle.rules.proofs.Samples.{Row, row, run, lending, filled, known, devices, named, groups, threeMembers, holding, plain, a, b, c, e, five}
+use Rattle.rules.proofs.Samples.{Row, row, run, lending, filled, zero-to-254, known, devices, named, groups, threeMembers, holding, plain, a, b, c, e, five}
 use Rattle.rules.proofs.Samples.{full-of-members, far, three-one, concentrator, groupManagement, letter, Sent, told, reply, list, sent, command, grants}
 use Rattle.rules.proofs.Samples.{code}
 
@@ -141,4 +141,4 @@ get-group-info =
     members-of (suc n) = members-of n ++ run 5 (0x00_01_00_03_00 + n)
 
     crowd : Lent
-    crowd = holding (known 3 1 254) [] groups (members-of 90)
+    crowd = holding (known 3 1 zero-to-254) [] groups (members-of 90)

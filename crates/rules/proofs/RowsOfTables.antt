@@ -2,16 +2,19 @@
 use Rattle.words.specs.Basics.{List, [], _∷_, _++_, map, ℕ, _+_, replicate}
 use Rattle.rules.specs.Frame.{Lent}
 use Rattle.rules.specs.Calls.{Answer}
-use Rattle.rules.proofs.Samples.{Row, row, run, lending, filled, known, device-table, D3, D4, D5, named, devices, groups, members, holding, three-one}
-use Rattle.rules.proofs.Samples.{curtains, request, Sent, told, sent, reply, goes}
+use Rattle.rules.proofs.Samples.{Row, row, run, lending, filled, units, only-zero, zero-to-one, zero-to-two, zero-to-254, known}
+use Rattle.rules.proofs.Samples.{device-table, D3, D4, D5, named, devices, groups, members, holding, three-one, curtains, request, Sent, told, sent, reply, goes}
 
 -- the house with one more record, or with other octets, in one table
 
 abbrev with-devices : List ℕ → Lent
 with-devices ds = holding ds [] groups members
 
-abbrev with-device : ℕ → ℕ → ℕ → Lent
-with-device d rights top = with-devices (D3 ++ D4 ++ D5 ++ known d rights top)
+abbrev with-record : List ℕ → Lent
+with-record r = with-devices (D3 ++ D4 ++ D5 ++ r)
+
+abbrev with-device : ℕ → ℕ → List ℕ → Lent
+with-device d rights us = with-record (known d rights us)
 
 abbrev with-binds : List ℕ → Lent
 with-binds bs = holding devices bs groups members
@@ -47,15 +50,22 @@ lengths =
 -- "its fields in range"; "no address is there twice in devices or groups"
 abbrev devices-and-groups : List Lent
 devices-and-groups =
-    -- a device D'0000, D'7FFF, with the top bit; rights 2; highest unit 255; D'0003 again
-    with-device 0 1 2
-    ∷ with-device 0x7FFF 0 2
-    ∷ with-device 0x8006 0 2
-    ∷ with-device 6 2 2
-    ∷ with-device 6 0 255
-    ∷ with-device 3 0 1
+    -- a device D'0000, D'7FFF, with the top bit; rights 2; D'0003 again
+    with-device 0 1 zero-to-two
+    ∷ with-device 0x7FFF 0 zero-to-two
+    ∷ with-device 0x8006 0 zero-to-two
+    ∷ with-device 6 2 zero-to-two
+    ∷ with-device 3 0 zero-to-one
+    -- octet 4 not 0; unit 0 not set, with units 1 and 2 and with unit 7; no unit at all; unit 255 set, with unit 0 and with every other
+    ∷ with-record (run 4 0x00_06_00_01 ++ zero-to-two)
+    ∷ with-record (run 4 0x00_06_00_80 ++ zero-to-two)
+    ∷ with-device 6 0 (units (0x06 ∷ []))
+    ∷ with-device 6 0 (units (0x80 ∷ []))
+    ∷ with-device 6 0 (units [])
+    ∷ with-device 6 0 (0x01 ∷ replicate 30 0x00 ++ 0x80 ∷ [])
+    ∷ with-device 6 0 (replicate 32 0xFF)
     -- a record that begins with 0xFF and is not free
-    ∷ with-device 0xFFFF 0xFF 0x00
+    ∷ with-record (replicate 35 0xFF ++ 0xFE ∷ [])
     -- a group G'0000, G'7FFF, with the top bit; a name of 14; padding 0x01 behind a name of 12, far behind one of 1, and for a name of 0; G'0001 again;
     -- not free
     ∷ map with-group
@@ -114,7 +124,7 @@ sound =
 
     many : Lent
     many =
-        holding (D3 ++ known 4 1 254 ++ known 0x7FFE 0 0)
+        holding (D3 ++ known 4 1 zero-to-254 ++ known 0x7FFE 0 only-zero)
         (run 8 0x00_03_01_82_00_80_01_FE ++ run 8 0x00_03_01_82_00_80_01_00 ++ run 8 0x00_03_01_82_00_00_04_02 ++ run 8 0x00_03_01_02_00_00_04_02
         ++ run 8 0x00_03_01_83_00_00_04_02 ++ run 8 0x00_03_01_82_00_00_03_02)
         (run 3 0x00_01_0D ++ replicate 13 0x41 ++ run 3 0x7F_FE_00 ++ replicate 13 0x00)

@@ -34,28 +34,46 @@ lending n written = written ++ replicate (n - length written) 0xAA
 abbrev pub filled : ℕ → List ℕ → List ℕ
 filled n t = t ++ replicate (n - length t) 0xFF
 
--- A house: devices 1 (rights 0, highest unit 1), 3 (1, 2), 4 (0, 2) and 5 (0, 1); groups 1 "S" and 2 without a name; members of group 1, by falling
--- device. Each of these tables has one free record.
+-- Sets of units, 32 octets each
 
--- a device's record: address, rights, highest unit
-abbrev pub known : ℕ → ℕ → ℕ → List ℕ
-known d rights top = run 2 d ++ rights ∷ top ∷ []
+-- those of the first octets, and no other
+abbrev pub units : List ℕ → List ℕ
+units s = s ++ replicate (32 - length s) 0x00
+
+abbrev pub only-zero : List ℕ
+only-zero = units (0x01 ∷ [])
+
+abbrev pub zero-to-one : List ℕ
+zero-to-one = units (0x03 ∷ [])
+
+abbrev pub zero-to-two : List ℕ
+zero-to-two = units (0x07 ∷ [])
+
+abbrev pub zero-to-254 : List ℕ
+zero-to-254 = replicate 31 0xFF ++ 0x7F ∷ []
+
+-- A house: devices 1 (rights 0, units 0 and 1), 3 (1, 0 to 2), 4 (0, 0 to 2) and 5 (0, 0 and 1); groups 1 "S" and 2 without a name; members of group 1, by
+-- falling device. Each of these tables has one free record.
+
+-- a device's record: address, rights, an octet 0, units
+abbrev pub known : ℕ → ℕ → List ℕ → List ℕ
+known d rights us = run 2 d ++ rights ∷ 0x00 ∷ us
 
 -- a table of n devices: these records, the others free
 abbrev pub device-table : ℕ → List ℕ → List ℕ
-device-table n ds = filled (n * 4) ds
+device-table n ds = filled (n * 36) ds
 
 abbrev pub D1 : List ℕ
-D1 = known 1 0 1
+D1 = known 1 0 zero-to-one
 
 abbrev pub D3 : List ℕ
-D3 = known 3 1 2
+D3 = known 3 1 zero-to-two
 
 abbrev pub D4 : List ℕ
-D4 = known 4 0 2
+D4 = known 4 0 zero-to-two
 
 abbrev pub D5 : List ℕ
-D5 = known 5 0 1
+D5 = known 5 0 zero-to-one
 
 abbrev pub devices : List ℕ
 devices = device-table 5 (D1 ++ D3 ++ D4 ++ D5)
@@ -116,7 +134,7 @@ full-of-members = holding devices (filled 48 []) groups threeMembers
 -- 0x0034; members of group 0x1234 in no order
 abbrev pub far-with : List ℕ → Lent
 far-with bs =
-    holding (known 0x7FFE 1 254 ++ known 0x1234 0 2 ++ known 0x0034 0 2) (filled 16 bs)
+    holding (known 0x7FFE 1 zero-to-254 ++ known 0x1234 0 zero-to-two ++ known 0x0034 0 zero-to-two) (filled 16 bs)
     (run 3 0x12_34_0D ++ run 2 0x00_FF ++ replicate 11 0x41 ++ named 0x34 [])
     (run 5 0x12_34_12_34_02 ++ run 5 0x12_34_00_34_01 ++ run 5 0x12_34_7F_FE_FE ++ run 5 0x00_34_00_34_02)
 

@@ -27,11 +27,11 @@ module _ {K L : Lent} (k : K ≡ L) where
       let w : x ≡ message L m r l = e ∙ ap (λ (X : Lent). message X m r l) k in
       record { told = ap saidBy w; leaves = ap (λ (x : Answer). x .tables) w }
 
-  pub as-admit : {d : DeviceAddress} {rights top : ℕ} {x : HostAnswer} → x ≡ admit K d rights top
-      → AsRules L (admits d rights top) (saidByHost x) (x .tables)
+  pub as-admit : {d : DeviceAddress} {rights : ℕ} {us : List ℕ} {x : HostAnswer} → x ≡ admit K d rights us
+      → AsRules L (admits d rights us) (saidByHost x) (x .tables)
   unfolding said left
-  as-admit {d} {rights} {top} {x} e =
-      let w : x ≡ admit L d rights top = e ∙ ap (λ (X : Lent). admit X d rights top) k in
+  as-admit {d} {rights} {us} {x} e =
+      let w : x ≡ admit L d rights us = e ∙ ap (λ (X : Lent). admit X d rights us) k in
       record { told = ap saidByHost w; leaves = ap (λ (x : HostAnswer). x .tables) w }
 
   pub as-release : {d : DeviceAddress} {x : HostAnswer} → x ≡ release K d → AsRules L (releases d) (saidByHost x) (x .tables)

@@ -14,6 +14,7 @@ use Rattle.rules.specs.Host.{settled, admit, release}
 use Rattle.rules.specs.Calls.{Answer, answer, answered, handled, forwarded, follow, message}
 use Rattle.rules.specs.History.{Call, sends, admits, releases, said, left, octetsOnly, granted, Entries, silence, lines, asked, entries}
 use Rattle.rules.proofs.Lists.{all-drop}
+use Rattle.rules.proofs.Words.{shaped}
 use Rattle.rules.proofs.Frames.{changed-nothing}
 use Rattle.rules.proofs.Kept.{Sane, Ok, ok-nothing}
 use Rattle.rules.proofs.Granted.{Granted, granted-command, Told, told-nothing}
@@ -131,7 +132,7 @@ step-host L c o x t g (refusing n) = record {
 }
 
 pub step : (L : Lent) (c : Call) → octetsOnly c ≡ true → Sane L → Step L c
-unfolding octetsOnly left said granted settled admit release
+unfolding octetsOnly shaped left said granted settled admit release
 step L (sends m r l) o S = step-message L m r l o S
-step L (admits d a u) o S = step-host L (admits d a u) (admit L d a u .outcome) _ refl refl (hosted-admit L d a u)
+step L (admits d a us) o S = step-host L (admits d a us) (admit L d a us .outcome) _ refl refl (hosted-admit L d a us o)
 step L (releases d) o S = step-host L (releases d) (release L d .outcome) _ refl refl (hosted-release L d S)

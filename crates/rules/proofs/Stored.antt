@@ -1,15 +1,16 @@
 -- The records that calls store: each has its table's size, is made of octets, and is no free record.
-use Rattle.words.specs.Basics.{_≡_, refl, true, false, List, [], _∷_, ℕ, suc, _+_, _-_, _/_, _%_, _<_, _≤_, arith, eqb, leb, length, drop, replicate}
+use Rattle.words.specs.Basics.{_≡_, refl, Bool, true, false, _&&_, List, [], _∷_, ℕ, suc, _+_, _-_, _/_, _%_, _<_, _≤_, arith, eqb, leb, length, drop, replicate}
 use Rattle.words.specs.Basics.{length-append, length-replicate, drop-at, eq-eqb, ne-eqb, leb-true, le-leb}
+use Rattle.words.specs.Names.{device}
 use Rattle.rules.specs.Types.{DeviceAddress, GroupAddress, Devices, Binds, Groups, Members}
 use Rattle.rules.specs.Lists.{all}
 use Rattle.rules.specs.Octets.{octet, word, octets, ignoreTop, octetString}
 use Rattle.rules.specs.Tables.{Rec, free?}
-use Rattle.rules.specs.Layout.{size, longestName, deviceRecord, groupRecord}
+use Rattle.rules.specs.Layout.{size, unitsLength, longestName, deviceRecord, groupRecord}
 use Rattle.rules.specs.Sound.{addressFits, deviceInRange, deviceFits, groupFits}
 use Rattle.rules.specs.Payloads.{bindOf, memberOf, groupNamed}
 use Rattle.rules.proofs.Lists.{and-parts, split, join, all-append, all-replicate}
-use Rattle.rules.proofs.Words.{shaped, octet-small}
+use Rattle.rules.proofs.Words.{shaped, shaped-length, shaped-octets, octet-small}
 
 pub record Stored (k : ℕ) (r : Rec) : Type 0 where
   pub shape : shaped k r ≡ true
@@ -31,10 +32,6 @@ octets-behind o s h = and-parts (leb o 255) (all (λ o. leb o 255) s) h .1
 octets-before : (o : ℕ) (s : List ℕ) → o ≤ 255 → octetString s ≡ true → octetString (o ∷ s) ≡ true
 unfolding octetString all
 octets-before o s l h = rw (le-leb o 255 l) h
-
-no-octets : octetString [] ≡ true
-unfolding octetString all
-no-octets = refl
 
 pub bind-stored : (p : List ℕ) → length p ≡ size Binds → octetString p ≡ true → Stored (size Binds) (bindOf p)
 unfolding bindOf ignoreTop
@@ -91,28 +88,43 @@ module _ (g : GroupAddress) (p : List ℕ) where
       name (o ∷ p) e = refl
 
 -- the record of a device
-module _ (d : DeviceAddress) (a u : ℕ) where
-  pub device-stored : d .0 ≤ 32766 → a ≤ 1 → u ≤ 254 → Stored (size Devices) (deviceRecord d a u)
-  unfolding deviceRecord octets
-  device-stored h i j =
-      stored (size Devices) (d .0 / 256) (d .0 % 256 ∷ a ∷ u ∷ []) refl (omega arith)
-      (octets-before (d .0 % 256) _ (omega arith) (octets-before a _ (omega arith) (octets-before u [] (omega arith) no-octets)))
+module _ (d : DeviceAddress) (a : ℕ) (us : List ℕ) where
+  device-shaped : d .0 < 65536 → a ≤ 255 → shaped unitsLength us ≡ true → shaped (size Devices) (deviceRecord d a us) ≡ true
+  unfolding deviceRecord octets shaped
+  device-shaped h i s =
+      join (eq-eqb (length (deviceRecord d a us)) (size Devices) (omega (arith, shaped-length unitsLength us s)))
+      (octets-before (d .0 / 256) _ (omega arith)
+      (octets-before (d .0 % 256) _ (omega arith)
+      (octets-before a _ (omega arith) (octets-before 0 us (omega arith) (shaped-octets unitsLength us s)))))
 
-  device-address : word 0 (deviceRecord d a u) ≡ d .0
+  -- its octet 0 makes it no free record
+  device-used : free? (deviceRecord d a us) ≡ false
+  unfolding deviceRecord octets free? all
+  device-used = three (eqb (d .0 / 256) 255) (eqb (d .0 % 256) 255) (eqb a 255)
+    where
+      three : (x y z : Bool) → (x && (y && (z && false))) ≡ false
+      three true true true = refl
+      three true true false = refl
+      three true false z = refl
+      three false y z = refl
+
+  pub device-stored : d .0 < 65536 → a ≤ 255 → shaped unitsLength us ≡ true → Stored (size Devices) (deviceRecord d a us)
+  device-stored h i s = record { shape = device-shaped h i s; used = device-used }
+
+  pub device-address : word 0 (deviceRecord d a us) ≡ d .0
   unfolding word deviceRecord octets
   device-address = omega arith
 
-  pub device-meets : deviceInRange d a u ≡ true → deviceFits (deviceRecord d a u) ≡ true
-  unfolding deviceInRange deviceFits deviceRecord octets
-  device-meets h = rw (device-address) h
+  pub device-meets : deviceInRange d a us ≡ true → deviceFits (deviceRecord d a us) ≡ true
+  unfolding deviceFits deviceRecord octets
+  device-meets h = join (rw (device-address) h) refl
 
-  pub device-fields : deviceInRange d a u ≡ true → (d .0 ≤ 32766) × (a ≤ 1) × (u ≤ 254)
+  pub device-fields : deviceInRange d a us ≡ true → (d .0 ≤ 32766) × (a ≤ 1)
   unfolding deviceInRange addressFits
   device-fields h =
-      let x = split h in
-      let y = split x.0 in
-      (leb-true (d .0) 32766 (split (y.0) .1), leb-true a 1 y.1, leb-true u 254 x.1)
+      let x = split (split (split h .0) .0) in
+      (leb-true (d .0) 32766 (split (x.0) .1), leb-true a 1 x.1)
 
 pub device-high : (r : Rec) → deviceFits r ≡ true → word 0 r ≤ 32766
-unfolding deviceFits deviceInRange addressFits
-device-high r h = leb-true (word 0 r) 32766 (split (split (split h .0) .0) .1)
+unfolding deviceFits
+device-high r h = device-fields (device (word 0 r)) (octet 2 r) (drop 4 r) (split h .0) .0

@@ -15,6 +15,7 @@ use Rattle.rules.specs.Payloads as payloads
 use Rattle.rules.specs.Commands as commands
 use Rattle.rules.specs.Copy as copy
 use Rattle.rules.specs.Host as host
+use Rattle.rules.specs.Carry as carry
 use Rattle.rules.specs.Calls as calls
 use Rattle.rules.specs.History as history
 
@@ -23,7 +24,7 @@ unfolding lists._&_ lists.ask lists.count lists.any lists.all lists.keep lists.f
 of-lists = 0
 
 unfoldable of-octets : ℕ
-unfolding octets.word octets.octets octets.flag octets.number octets.joined octets.ignoreTop octets.over octets.octetString
+unfolding octets.bit octets.word octets.octets octets.flag octets.number octets.joined octets.ignoreTop octets.over octets.octetString
 of-octets = 0
 
 unfoldable of-units : ℕ
@@ -39,7 +40,7 @@ unfolding tables.written
 of-tables-2 = 0
 
 unfoldable of-layout : ℕ
-unfolding layout.deviceRecord layout.partIs layout.toGroup layout.groupRecord layout.memberRecord
+unfolding layout.inSet layout.among layout.lowBits layout.upTo layout.deviceRecord layout.partIs layout.toGroup layout.groupRecord layout.memberRecord
 of-layout = 0
 
 unfoldable of-frame : ℕ
@@ -90,6 +91,10 @@ unfoldable of-host : ℕ
 unfolding host.settled host.admitting host.admission host.admit host.namesDevice host.releasing host.release
 of-host = 0
 
+unfoldable of-carry : ℕ
+unfolding carry.oldFits carry.oldSound carry.oldHasUnit carry.oldUnitExists carry.carried carry.carriedTable carry.carrying carry.carryOver
+of-carry = 0
+
 unfoldable of-calls : ℕ
 unfolding calls.roomy calls.toMany calls.asking calls.wayTo calls.wayOn calls.way calls.answered calls.handled calls.forwarded calls.follow
 of-calls = 0
@@ -119,7 +124,7 @@ unfolding of-lists of-octets of-units of-tables of-tables-2 of-layout of-frame o
 tables-and-messages = 0
 
 unfoldable commands-and-calls : ℕ
-unfolding of-sound-2 of-recipients of-payloads of-commands of-commands-2 of-copy
+unfolding of-sound-2 of-recipients of-payloads of-commands of-commands-2 of-copy of-carry
 commands-and-calls = 0
 
 unfoldable pub whole : ℕ

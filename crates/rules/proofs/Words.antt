@@ -1,7 +1,7 @@
 -- Runs of octets and the numbers that they make: on a record of octets, a test by octets and one by number are the same test.
 use native.Mathlib.Numerals.{add-one}
 use Rattle.words.specs.Basics.{_≡_, refl, sym, _∙_, Bool, true, false, not, _&&_, false≢true, List, [], _∷_, ℕ, zero, suc, _+_, _*_, _/_, _%_, _<_, _≤_, arith}
-use Rattle.words.specs.Basics.{eqb, leb, length, drop-cons, not-true, eq-eqb, ne-eqb, eqb-true, leb-true, eqb-false}
+use Rattle.words.specs.Basics.{eqb, leb, length, take, drop-cons, not-true, eq-eqb, ne-eqb, eqb-true, leb-true, eqb-false}
 use Rattle.rules.specs.Types.{DeviceAddress, GroupAddress, Binds}
 use Rattle.rules.specs.Lists.{all, _&_}
 use Rattle.rules.specs.Octets.{octet, word, octets, octetString, flag, number, joined}
@@ -58,6 +58,19 @@ matches-word k i w r l h =
 pub addressed-word : (k w : ℕ) (r : Rec) → 2 ≤ k → shaped k r ≡ true → addressed w r ≡ eqb (word 0 r) w
 unfolding addressed
 addressed-word k w r l h = matches-word k 0 w r l h
+
+-- .. and the record begins with that word's octets
+pub begins-word : (k : ℕ) (r : Rec) → 2 ≤ k → shaped k r ≡ true → take 2 r ≡ octets (word 0 r)
+unfolding octets word
+begins-word k r l h = step r (shaped-length k r h) (octet-small r 1 (shaped-octets k r h))
+  where
+    step : (r : Rec) → length r ≡ k → octet 1 r ≤ 255 → take 2 r ≡ octets (word 0 r)
+    step [] n s = absurd (omega arith)
+    step (x ∷ []) n s = absurd (omega arith)
+    step (x ∷ y ∷ r) n s =
+        let a : (x * 256 + y) / 256 ≡ x = omega arith in
+        let b : (x * 256 + y) % 256 ≡ y = omega arith in
+        rw (a, b)
 
 -- one way needs no octets: a record at an address begins with that word
 pub word-of : (a : ℕ) (r : Rec) → addressed a r ≡ true → word 0 r ≡ a

@@ -7,7 +7,7 @@ use Rattle.rules.specs.Frame.{Lent}
 use Rattle.rules.specs.Calls.{message}
 use Rattle.rules.specs.History.{Call, sends, admits, releases, said, left, after, history, granted, stand, standing, entries}
 use Rattle.rules.proofs.Whole.{whole}
-use Rattle.rules.proofs.Samples.{run, lending, filled, device-table, D3, D4, D5, named, holding, three-one, concentrator, curtains}
+use Rattle.rules.proofs.Samples.{run, lending, filled, zero-to-one, zero-to-two, device-table, D3, D4, D5, named, holding, three-one, concentrator, curtains}
 use Rattle.rules.proofs.Samples.{bindManagement, groupManagement, letter, request, reply}
 
 -- what is known at one place of a run: the tables, and the binds and members that stand by history
@@ -147,9 +147,9 @@ to-five = run 3 0x00_05_01
 -- to the place where both binds and both members stand
 abbrev pub linking : List Line
 linking =
-    line (admits (device 3) 1 2) true (place (tables D3 [] [] []) [] []) Nobody []
-    ∷ line (admits (device 4) 0 2) true (place (tables (D3 ++ D4) [] [] []) [] []) Nobody []
-    ∷ line (admits (device 5) 0 1) true (three [] [] [] [] []) Nobody []
+    line (admits (device 3) 1 zero-to-two) true (place (tables D3 [] [] []) [] []) Nobody []
+    ∷ line (admits (device 4) 0 zero-to-two) true (place (tables (D3 ++ D4) [] [] []) [] []) Nobody []
+    ∷ line (admits (device 5) 0 zero-to-one) true (three [] [] [] [] []) Nobody []
     -- Create Group "S"; Add to Group 4:02 and 5:01
     ∷ line (gives groupManagement 0x01 (run 2 0x01_53)) true (three [] S [] [] []) Nobody []
     ∷ line (gives groupManagement 0x03 four) true (three [] S four [] (four ∷ [])) Nobody []
@@ -168,7 +168,7 @@ unlinking =
     ∷ line (gives bindManagement 0x05 (run 2 0x00_04)) true (three (gone A ++ B) S (gone four ++ five) (B ∷ []) (five ∷ [])) (Forwarded 1) to-five
     -- Release and admit device 5
     ∷ line (releases (device 5)) true (place (tables (D3 ++ D4) (gone A ++ B) S []) (B ∷ []) []) Nobody []
-    ∷ line (admits (device 5) 0 1) true (three (gone A ++ B) S [] (B ∷ []) []) Nobody []
+    ∷ line (admits (device 5) 0 zero-to-one) true (three (gone A ++ B) S [] (B ∷ []) []) Nobody []
     -- Delete Group 1, Create Group "S"
     ∷ line (gives groupManagement 0x02 (run 2 0x00_01)) true (three [] [] [] [] []) Nobody []
     ∷ line (gives groupManagement 0x01 (run 2 0x01_53)) true (three [] S [] [] []) Nobody []

@@ -1,18 +1,18 @@
 -- What exists (document 01, Tables): units, groups, rights.
-use Rattle.words.specs.Basics.{Bool, true, cond, List, ℕ, eqb, leb}
+use Rattle.words.specs.Basics.{Bool, true, cond, List, ℕ, eqb}
 use Rattle.words.specs.Names.{concentrator}
 use Rattle.rules.specs.Types.{DeviceAddress, GroupAddress}
 use Rattle.rules.specs.Lists.{any, _&_}
 use Rattle.rules.specs.Tables.{Rec, used, addressed}
-use Rattle.rules.specs.Layout.{deviceRights, deviceHighest}
+use Rattle.rules.specs.Layout.{inSet, deviceRights, deviceUnits}
 
 -- is the device in the table?
 unfoldable pub admitted : List Rec → DeviceAddress → Bool
 admitted ds d = any (addressed (d .0)) (used ds)
 
--- "An admitted device has units 0 to its highest."
+-- an admitted device has the units of its set (document 02, request 2)
 unfoldable pub hasUnit : DeviceAddress → ℕ → Rec → Bool
-hasUnit d u r = addressed (d .0) r & leb u (deviceHighest r)
+hasUnit d u r = addressed (d .0) r & inSet u (deviceUnits r)
 
 -- "D'0000 is the concentrator: never in the table, unit 0 only, rights 1."
 unfoldable pub unitExists : List Rec → DeviceAddress → ℕ → Bool

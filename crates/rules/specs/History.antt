@@ -1,7 +1,7 @@
 -- Condition 3's words, read from the calls and their answers alone: a run, its history, what stands, what is linked, what is counted.
 -- Nothing here looks into a table, and nothing of what a call does to a table is used to say what it adds or withdraws: a payload is told in numbers here,
 -- where the tables compare octets. A message's fields and command, and the places of a record's fields, are those of condition 2 (docs/DECISIONS.md, 20).
-use Rattle.words.specs.Basics.{_≡_, Bool, true, false, cond, not, _||_, List, [], _∷_, _++_, ℕ, _+_, eqb, leb, drop}
+use Rattle.words.specs.Basics.{_≡_, Bool, true, false, cond, not, _||_, List, [], _∷_, _++_, ℕ, _+_, eqb, length, drop}
 use Rattle.words.specs.Names.{concentrator, device, group, ok, headerLength}
 use Rattle.words.specs.declared.BindPart.the-variants.{Whole, Source, SourceUnit, Destination, DestinationUnit}
 use Rattle.words.specs.Outcomes.{numberOf}
@@ -12,9 +12,9 @@ use Rattle.rules.specs.Lists.{count, any, all, keep, has, _&_}
 use Rattle.rules.specs.Octets.{octet, word, octets, number, joined, octetString}
 use Rattle.rules.specs.Units.{rising}
 use Rattle.rules.specs.Tables.{Rec, free?}
-use Rattle.rules.specs.Layout.{addressLength, deviceAddress, deviceHighest, deviceRecord, bindSource, bindSourceUnit, bindFrom, bindInterface}
-use Rattle.rules.specs.Layout.{bindDestination, bindUnit, toGroup, boundGroup, boundDevice, bindTo, memberGroup, memberDevice, memberUnit}
-use Rattle.rules.specs.Layout.{memberNumber, memberRecord}
+use Rattle.rules.specs.Layout.{size, most, addressLength, unitsLength, inSet, deviceAddress, deviceUnits, deviceRecord}
+use Rattle.rules.specs.Layout.{bindSource, bindSourceUnit, bindFrom, bindInterface, bindDestination, bindUnit, toGroup, boundGroup, boundDevice, bindTo}
+use Rattle.rules.specs.Layout.{memberGroup, memberDevice, memberUnit, memberNumber, memberRecord}
 use Rattle.rules.specs.Frame.{Lent, lentOf, everyTable, also, table}
 use Rattle.rules.specs.Message.{fields, payload, sender, destination, response, lengthFits, dataLengthFits, typeFits}
 use Rattle.rules.specs.Sound.{wholeRecords, sound}
@@ -27,7 +27,7 @@ use Rattle.rules.specs.Calls.{roomy, message, forwarded}
 -- a message with the reply and the list that go with it, or a host call
 pub data Call : Type 0 where
   sends : List ℕ → List ℕ → List ℕ → Call
-  admits : DeviceAddress → ℕ → ℕ → Call
+  admits : DeviceAddress → ℕ → List ℕ → Call
   releases : DeviceAddress → Call
 
 -- what a caller is told: the outcome, and the reply and the list as they come back
@@ -38,13 +38,13 @@ pub record Said : Type 0 where
 
 unfoldable pub said : Lent → Call → Said
 said L (sends m r l) = record { outcome = message L m r l .outcome; reply = message L m r l .reply; list = message L m r l .list }
-said L (admits d rights top) = record { outcome = admit L d rights top .outcome; reply = []; list = [] }
+said L (admits d rights us) = record { outcome = admit L d rights us .outcome; reply = []; list = [] }
 said L (releases d) = record { outcome = release L d .outcome; reply = []; list = [] }
 
 -- the tables that a call leaves
 unfoldable pub left : Lent → Call → Lent
 left L (sends m r l) = message L m r l .tables
-left L (admits d rights top) = admit L d rights top .tables
+left L (admits d rights us) = admit L d rights us .tables
 left L (releases d) = release L d .tables
 
 -- the tables after a run. The latest call stands first.
@@ -61,10 +61,10 @@ unfoldable pub history : Lent → List Call → List Event
 history L [] = []
 history L (c ∷ cs) = record { call = c; told = said (after L cs) c } ∷ history L cs
 
--- a message is a string of octets
+-- a message is a string of octets, a set of units 32 of them
 unfoldable pub octetsOnly : Call → Bool
 octetsOnly (sends m r l) = octetString m
-octetsOnly (admits d rights top) = true
+octetsOnly (admits d rights us) = eqb (length us) unitsLength & octetString us
 octetsOnly (releases d) = true
 
 -- What stands
@@ -72,7 +72,7 @@ octetsOnly (releases d) = true
 -- was the call granted: outcome 0, and for a message the code 0x00, octet 16 of the reply?
 unfoldable pub granted : Call → Said → Bool
 granted (sends m r l) a = eqb (numberOf (a .outcome)) 0 & eqb (octet headerLength (a .reply)) (ok .0)
-granted (admits d rights top) a = eqb (numberOf (a .outcome)) 0
+granted (admits d rights us) a = eqb (numberOf (a .outcome)) 0
 granted (releases d) a = eqb (numberOf (a .outcome)) 0
 
 -- what a granted call writes on the fitter's sheet: nothing, one line, or a stroke through every line that passes
@@ -146,7 +146,7 @@ asked NotServed p = silence
 -- a call
 unfoldable pub entries : Call → Entries
 entries (sends m r l) = asked (command (fields m)) (payload m)
-entries (admits d rights top) = also Devices (adds (deviceRecord d rights top)) silence
+entries (admits d rights us) = also Devices (adds (deviceRecord d rights us)) silence
 entries (releases d) =
     also Devices (withdraws (λ x. eqb (deviceAddress x .0) (d .0)))
     (also Members (withdraws (λ x. eqb (memberDevice x .0) (d .0)))
@@ -200,11 +200,11 @@ linked h f u = any (λ b. madeFor f b & reaches (standing Members h) u b) (stand
 unfoldable pub counted : List Event → GroupAddress → ℕ
 counted h g = count (λ x. eqb (memberGroup x .0) (g .0)) (standing Members h)
 
--- a unit of the concentrator, or of a device admitted and not released since
+-- unit 0 of the concentrator, or one of the set with which a device was admitted, and the device not released since
 unfoldable pub existing : List Event → DeviceAddress → ℕ → Bool
 existing h d u =
     cond (eqb (d .0) (concentrator .0)) (eqb u 0)
-    (any (λ x. eqb (deviceAddress x .0) (d .0) & leb u (deviceHighest x)) (standing Devices h))
+    (any (λ x. eqb (deviceAddress x .0) (d .0) & inSet u (deviceUnits x)) (standing Devices h))
 
 -- a well-formed request from an existing unit to the bind address
 pub record Request (h : List Event) (m : List ℕ) : Type 0 where
@@ -231,7 +231,7 @@ memberCount a = let p : List ℕ = drop headerLength (a .reply) in word (2 + oct
 
 -- a table of a size allowed, with every record free
 unfoldable pub freeTable : Kind → List ℕ → Bool
-freeTable k t = wholeRecords k t & all free? (table k t)
+freeTable k t = wholeRecords (size k) (most k) t & all free? (table k t)
 
 unfoldable pub freeTables : Lent → Bool
 freeTables L = everyTable (λ k. freeTable k (lentOf k L))

@@ -1,4 +1,4 @@
--- The two host calls (document 01, Outcomes): admit and release a device.
+-- The two host calls (document 01, Outcomes): admit a device with its rights and its set of units, and release a device.
 use Rattle.words.specs.Basics.{Bool, cond, not, _||_, List, ℕ, eqb}
 use Rattle.words.specs.Outcomes.{numberOf}
 use Rattle.rules.specs.Types.{DeviceAddress, Devices, Binds, Members, Outcome, Done, Unsound, OutOfRange, AlreadyAdmitted, NoFreeRecord, NotAdmitted}
@@ -21,19 +21,19 @@ hostAnswer o L = record { outcome = o; tables = L }
 unfoldable pub settled : Effect → Lent → Outcome → HostAnswer
 settled x L o = hostAnswer o (cond (eqb (numberOf o) 0) (changed x L) L)
 
-unfoldable pub admitting : DeviceAddress → ℕ → ℕ → Effect
-admitting d rights top = only Devices (store (deviceRecord d rights top))
+unfoldable pub admitting : DeviceAddress → ℕ → List ℕ → Effect
+admitting d rights us = only Devices (store (deviceRecord d rights us))
 
 -- "Admit: 16, 20, 21, 22, else 0.": those behind 16 ask the devices alone
-unfoldable pub admission : List Rec → DeviceAddress → ℕ → ℕ → Outcome
-admission ds d rights top =
-    ask (deviceInRange d rights top) OutOfRange
+unfoldable pub admission : List Rec → DeviceAddress → ℕ → List ℕ → Outcome
+admission ds d rights us =
+    ask (deviceInRange d rights us) OutOfRange
     (ask (not (admitted ds d)) AlreadyAdmitted
     (ask (someFree ds) NoFreeRecord
     (Done 0)))
 
-unfoldable pub admit : Lent → DeviceAddress → ℕ → ℕ → HostAnswer
-admit L d rights top = settled (admitting d rights top) L (ask (sound L) Unsound (admission (tables L Devices) d rights top))
+unfoldable pub admit : Lent → DeviceAddress → ℕ → List ℕ → HostAnswer
+admit L d rights us = settled (admitting d rights us) L (ask (sound L) Unsound (admission (tables L Devices) d rights us))
 
 -- does the bind name the device "as source or individual destination"?
 unfoldable pub namesDevice : DeviceAddress → Rec → Bool

@@ -1,10 +1,10 @@
 -- The records (document 01, Tables): how many octets each has, how many there may be, where its fields stand, and how it is built from them.
 -- No other file knows the place of a field.
-use Rattle.words.specs.Basics.{Bool, List, [], _∷_, _++_, ℕ, _+_, _-_, _*_, eqb, length, take, drop, replicate}
+use Rattle.words.specs.Basics.{Bool, cond, List, [], _∷_, _++_, ℕ, zero, suc, _+_, _-_, _*_, _/_, _%_, _^_, eqb, leb, length, take, drop, replicate}
 use Rattle.words.specs.Names.{device, group, flagSet}
 use Rattle.words.specs.declared.BindPart.the-variants.{Whole, Source, SourceUnit, Destination, DestinationUnit}
 use Rattle.rules.specs.Types.{DeviceAddress, GroupAddress, BindPart, Kind, Devices, Binds, Groups, Members}
-use Rattle.rules.specs.Octets.{octet, word, octets, flag, number, joined}
+use Rattle.rules.specs.Octets.{octet, bit, word, octets, flag, number, joined}
 use Rattle.rules.specs.Units.{unitAt}
 use Rattle.rules.specs.Tables.{Rec, matches, addressed}
 
@@ -24,7 +24,7 @@ pub record Shape : Type 0 where
   pub key : ℕ
 
 abbrev pub shape : Kind → Shape
-shape Devices = record { place = 0; size = 4; most = 64; key = addressLength }
+shape Devices = record { place = 0; size = 36; most = 64; key = addressLength }
 shape Binds = record { place = 1; size = 8; most = 64; key = 8 }
 shape Groups = record { place = 2; size = 16; most = 16; key = addressLength }
 shape Members = record { place = 3; size = 5; most = 128; key = 5 }
@@ -42,7 +42,34 @@ key k = shape k .key
 abbrev pub full : Kind → ℕ
 full k = most k * size k
 
--- Device: address 2, rights 1, highest unit 1
+-- A set of units: "32 octets with one bit per unit, the lowest bit of the first octet for unit 0" (document 02, request 2)
+
+abbrev pub unitsLength : ℕ
+unitsLength = 32
+
+-- is the unit u in the set?
+unfoldable pub inSet : ℕ → List ℕ → Bool
+inSet u us = eqb (bit (u % 8) (octet (u / 8) us)) 1
+
+-- The set of units 0 to `top`
+
+-- how many of the eight units of octet i are at most `top`
+unfoldable pub among : ℕ → ℕ → ℕ
+among top i = cond (leb (top + 1 - i * 8) 8) (top + 1 - i * 8) 8
+
+-- an octet with its n lowest bits set
+unfoldable pub lowBits : ℕ → ℕ
+lowBits n = 2 ^ n - 1
+
+-- n octets, from octet i on
+abbrev pub octetsUpTo : ℕ → ℕ → ℕ → List ℕ
+octetsUpTo top zero i = []
+octetsUpTo top (suc n) i = lowBits (among top i) ∷ octetsUpTo top n (suc i)
+
+unfoldable pub upTo : ℕ → List ℕ
+upTo top = octetsUpTo top unitsLength 0
+
+-- Device: address 2, rights 1, one octet 0, units 32
 
 abbrev pub deviceAddress : Rec → DeviceAddress
 deviceAddress r = device (word 0 r)
@@ -50,11 +77,15 @@ deviceAddress r = device (word 0 r)
 abbrev pub deviceRights : Rec → ℕ
 deviceRights r = octet 2 r
 
-abbrev pub deviceHighest : Rec → ℕ
-deviceHighest r = octet 3 r
+-- the octet that is 0
+abbrev pub deviceZero : Rec → ℕ
+deviceZero r = octet 3 r
 
-unfoldable pub deviceRecord : DeviceAddress → ℕ → ℕ → Rec
-deviceRecord d rights top = octets (d .0) ++ rights ∷ top ∷ []
+abbrev pub deviceUnits : Rec → List ℕ
+deviceUnits r = drop 4 r
+
+unfoldable pub deviceRecord : DeviceAddress → ℕ → List ℕ → Rec
+deviceRecord d rights us = octets (d .0) ++ rights ∷ 0 ∷ us
 
 -- Bind: source device 2, source unit 1, destination interface type and UID 2, destination address type and address 2, destination unit 1
 

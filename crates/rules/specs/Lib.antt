@@ -14,6 +14,7 @@ pub mod Payloads
 pub mod Commands
 pub mod Copy
 pub mod Host
+pub mod Carry
 pub mod Calls
 pub mod History
 pub mod Seen

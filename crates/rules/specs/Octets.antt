@@ -1,11 +1,15 @@
 -- Octets, and 16-bit words of two octets, most significant first (document 01, The message). A word's top bit is its flag, the rest its number.
 -- Places are counted from 0 in all definitions, and from 1 in the paper: its octet 4 stands at place 3.
-use Rattle.words.specs.Basics.{Bool, true, false, _&&_, List, [], _∷_, _++_, ℕ, _+_, _*_, _/_, _%_, eqb, leb, length, drop, getD}
+use Rattle.words.specs.Basics.{Bool, true, false, _&&_, List, [], _∷_, _++_, ℕ, _+_, _*_, _/_, _%_, _^_, eqb, leb, length, drop, getD}
 use Rattle.rules.specs.Lists.{all}
 
 -- the octet at place i
 abbrev pub octet : ℕ → List ℕ → ℕ
 octet i s = getD s i 0
+
+-- bit k of an octet, the lowest being bit 0
+unfoldable pub bit : ℕ → ℕ → ℕ
+bit k o = o / 2 ^ k % 2
 
 -- the word at places i and i + 1
 unfoldable pub word : ℕ → List ℕ → ℕ

@@ -1,30 +1,31 @@
 -- "Tables are sound if" (document 01, Tables)
-use Rattle.words.specs.Basics.{Bool, true, cond, not, _&&_, _||_, List, [], _∷_, ℕ, _%_, eqb, leb, length, take}
-use Rattle.words.specs.Names.{lowest, highest, highestUnit, anyUnit, anyInterface}
+use Rattle.words.specs.Basics.{Bool, true, cond, not, _&&_, _||_, List, [], _∷_, ℕ, _*_, _%_, eqb, leb, length, take}
+use Rattle.words.specs.Names.{lowest, highest, anyUnit, anyInterface}
 use Rattle.rules.specs.Types.{DeviceAddress, Kind, Devices, Binds, Groups, Members}
 use Rattle.rules.specs.Lists.{any, all, _&_}
 use Rattle.rules.specs.Octets.{flag}
-use Rattle.rules.specs.Tables.{Rec, free?, used, matches}
-use Rattle.rules.specs.Layout.{size, full, key, deviceAddress, deviceRights, deviceHighest, longestName, groupAddress, nameLength, namePadding}
+use Rattle.rules.specs.Tables.{Rec, records, free?, used, matches}
+use Rattle.rules.specs.Layout.{size, most, key, inSet, deviceAddress, deviceRights, deviceZero, deviceUnits}
 use Rattle.rules.specs.Layout.{bindSource, bindSourceUnit, bindFrom, bindUid, toGroup, boundGroup, boundDevice, bindUnit, bindTo}
-use Rattle.rules.specs.Layout.{memberGroup, memberDevice, memberUnit}
-use Rattle.rules.specs.Frame.{Lent, lentOf, everyTable, table, Tables, tables}
+use Rattle.rules.specs.Layout.{longestName, groupAddress, nameLength, namePadding, memberGroup, memberDevice, memberUnit}
+use Rattle.rules.specs.Frame.{Lent, lentOf, everyTable, Tables, tables}
 use Rattle.rules.specs.Exists.{unitExists, groupExists}
 
--- "each length is a multiple of its record size and within the limit"
-unfoldable pub wholeRecords : Kind → List ℕ → Bool
-wholeRecords k t = eqb (length t % size k) 0 & leb (length t) (full k)
+-- "each length is a multiple of its record size and within the limit": records of k octets, n at most
+unfoldable pub wholeRecords : ℕ → ℕ → List ℕ → Bool
+wholeRecords k n t = eqb (length t % k) 0 & leb (length t) (n * k)
 
 -- "device and group addresses 0x0001 to 0x7FFE"
 unfoldable pub addressFits : ℕ → Bool
 addressFits a = leb lowest a & leb a highest
 
--- address, rights 0 or 1, highest unit 0 to 254
-unfoldable pub deviceInRange : DeviceAddress → ℕ → ℕ → Bool
-deviceInRange d rights top = addressFits (d .0) & leb rights 1 & leb top highestUnit
+-- address, rights 0 or 1; "Unit 0 is always set and unit 255 never" (document 02, request 2)
+unfoldable pub deviceInRange : DeviceAddress → ℕ → List ℕ → Bool
+deviceInRange d rights us = addressFits (d .0) & leb rights 1 & inSet 0 us & not (inSet anyUnit us)
 
+-- .. and "one octet 0"
 unfoldable pub deviceFits : Rec → Bool
-deviceFits r = deviceInRange (deviceAddress r) (deviceRights r) (deviceHighest r)
+deviceFits r = deviceInRange (deviceAddress r) (deviceRights r) (deviceUnits r) & eqb (deviceZero r) 0
 
 -- address, name length 0 to 13, name padded with 0x00
 unfoldable pub groupFits : Rec → Bool
@@ -61,9 +62,13 @@ unfoldable pub distinct : ℕ → List Rec → Bool
 distinct n [] = true
 distinct n (r ∷ t) = (free? r || not (any (matches 0 (take n r)) (used t))) && distinct n t
 
--- one table, by its octets and by what exists
+-- one table by itself: at most n records of k octets, each free or passing, no two used ones with the same first octets
+abbrev pub soundBy : ℕ → ℕ → ℕ → (Rec → Bool) → List ℕ → Bool
+soundBy k n first passes t = wholeRecords k n t & all passes (used (records k t)) & distinct first (records k t)
+
+-- .. by its octets and by what exists
 unfoldable pub soundTable : Kind → List Rec → List Rec → List ℕ → Bool
-soundTable k ds gs t = wholeRecords k t & all (fits k ds gs) (used (table k t)) & distinct (key k) (table k t)
+soundTable k ds gs t = soundBy (size k) (most k) (key k) (fits k ds gs) t
 
 unfoldable pub sound : Lent → Bool
 sound L = everyTable (λ k. soundTable k (tables L Devices) (tables L Groups) (lentOf k L))

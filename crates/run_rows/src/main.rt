@@ -99,11 +99,13 @@ fn say(step: u8, outcome: u8, code: u8) {
 }
 
 // Devices 3, with rights, and 4, each with the units 0 to 2; all other records are free.
-fn two_devices() -> [u8; 256]
-    ensures { λ r. ⌜ length r ≡ 256 ⌝ }
+fn two_devices() -> [u8; 2304]
+    ensures { λ r. ⌜ length r ≡ 2304 ⌝ }
 {
-    let mut devices = [0xFFu8; 256];
-    octets::put(&mut devices, b"\x00\x03\x01\x02\x00\x04\x00\x02");
+    let mut devices = [0xFFu8; 2304];
+    octets::fill_at(&mut devices, 0, 72, 0x00);
+    octets::put(&mut devices, b"\x00\x03\x01\x00\x07");
+    octets::write_at(&mut devices, 36, b"\x00\x04\x00\x00\x07");
     devices
 }
 

@@ -1,6 +1,6 @@
 // "Tables are sound if" (document 01, Tables): each rule is one check, over any table.
 use words::Kind;
-ghost use Rattle.words.specs.Basics.{_≡_, _<_, _≤_, length};
+ghost use Rattle.words.specs.Basics.{_≡_, _*_, _<_, _≤_, length};
 ghost use Rattle.rules.specs.Types.{Devices, Groups};
 ghost use Rattle.rules.specs.Lists.{all};
 ghost use Rattle.rules.specs.Tables.{records, used};
@@ -10,11 +10,11 @@ ghost use Rattle.rules.specs.Sound.{wholeRecords, fits, distinct, soundTable, s
 ghost use Rattle.soundness.specs.Asking.{freeOr, notAgain};
 
 // "each length is a multiple of its record size and within the limit"
-fn whole_records(kind: Kind, given: &[u8]) -> bool
-    ensures { λ r. ⌜ r ≡ wholeRecords kind (now (given .entry)) ⌝ }
+pub fn whole_records(given: &[u8], size: usize, most: usize) -> bool
+    requires { ⌜ (0 < size) × (most * size ≤ 65535) ⌝ }
+    ensures { λ r. ⌜ r ≡ wholeRecords size most (now (given .entry)) ⌝ }
 {
-    let shape = layouts::shape_of(kind);
-    (given.len() % shape.size == 0) & (given.len() <= shape.most * shape.size)
+    (given.len() % size == 0) & (given.len() <= most * size)
 }
 
 // "each record is free or has its fields in range"
@@ -57,7 +57,7 @@ fn free_or_last(rec: &[u8], later: &[u8], size: usize, n: usize) -> bool
 }
 
 // "no address is there twice in devices or groups, no used record twice in binds or members"
-fn distinct(given: &[u8], size: usize, n: usize) -> bool
+pub fn distinct(given: &[u8], size: usize, n: usize) -> bool
     requires { ⌜ (0 < size) × (n ≤ size) ⌝ }
     ensures { λ r. ⌜ r ≡ distinct n (records size (now (given .entry))) ⌝ }
 {
@@ -76,10 +76,10 @@ fn distinct(given: &[u8], size: usize, n: usize) -> bool
 fn table_sound(kind: Kind, given: &[u8], devices: &[u8], groups: &[u8]) -> bool
     ensures { λ r. ⌜ r ≡ soundTable kind (table Devices (now (devices .entry))) (table Groups (now (groups .entry))) (now (given .entry)) ⌝ }
 {
-    if !whole_records(kind, given) {
+    let shape = layouts::shape_of(kind);
+    if !whole_records(given, shape.size, shape.most) {
         return false;
     }
-    let shape = layouts::shape_of(kind);
     let fit = all_fit(kind, given, devices, groups);
     let once = distinct(given, shape.size, shape.key);
     fit & once

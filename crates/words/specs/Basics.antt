@@ -10,5 +10,5 @@ pub use lib.ListN.{length, take, drop, replicate, getD, set, length-drop, length
 pub use lib.ListN.{length-take, take-append-drop}
 pub use lib.Seq.{sets, length-take-le, take-all, drop-at, drop-cons, drop-length, drop-drop, getD-drop, length-sets, sets-eq}
 pub use denote.Ref.{now}
-pub use borrow.Author.Tests.{not-true, eq-eqb, not-false, ne-eqb, eqb-true, leb-true, le-leb, lt-ltb, eqb-false, le-ltb, ltb-true, lt-leb, ltb-false}
+pub use borrow.Author.Tests.{not-true, eq-eqb, not-false, ne-eqb, eqb-true, leb-true, leb-false, le-leb, lt-ltb, eqb-false, le-ltb, ltb-true, lt-leb, ltb-false}
 pub use borrow.Author.Needs.{needs}

@@ -7,7 +7,7 @@ use Rattle.fitting.proofs.device_in_range.Tie as tie
 
 returns : tie.Need-returns
 unfolding deviceInRange _&_
-returns c = rw (c .address-fits .ensures)
+returns c = rw (c .before .before .address-fits .ensures, c .before .in-set .ensures, c .in-set2 .ensures)
 
 pub device-in-range-spec : {M : Type 1} → statement M
-device-in-range-spec = tie.close (tie.spec (λ c κs. search needs) returns)
+device-in-range-spec = tie.close (tie.spec (λ c κs. search needs) (λ c κs. search needs) (λ c κs. search needs) returns)

@@ -6,7 +6,7 @@ use Rattle.run_rows.proofs.main.Tie as tie
 abbrev Inv-loop : tie.InvT-loop
 Inv-loop devices₀ binds₀ groups₀ members₀ reply₀ list₀ step₀ devices binds groups members reply list step =
     (step ≤ 71)
-    × (length devices ≡ 256)
+    × (length devices ≡ 2304)
     × (length binds ≡ 512)
     × (length groups ≡ 256)
     × (length members ≡ 640)

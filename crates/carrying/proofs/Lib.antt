@@ -1,0 +1,4 @@
+-- The laws that the proofs of this crate and of those above it cite.
+pub mod OneByOne
+pub mod Settled
+pub mod Once
