@@ -1,7 +1,7 @@
 /*
  * gneissfold: the bind and group part of a HAN-FUN concentrator, for C and C++.
  *
- * Link target/staticlib/libgneissfold.a, which `rt staticlib gneissfold` proves and writes (x86-64 Linux). Beside its five calls the
+ * Link target/staticlib/libgneissfold.a, which `rt staticlib gneissfold` proves and writes (x86-64 Linux). Beside its six calls the
  * archive asks for memcpy and memset alone. It has no state, takes no memory of its own and calls nothing back: all that a call reads or
  * changes is lent to it by the caller, until it returns. Calls from several threads need no lock unless they are lent the same octets.
  *
@@ -12,6 +12,8 @@
  * Nothing else is owed: every call answers on any octets and any lengths, and its whole answer is proved (crates/gneissfold/src/lib.rt).
  *
  * "Nothing is written" below means that tables, reply, list and room keep every octet. Octets past the written ones always stay.
+ *
+ * A site whose device records have 4 octets is carried over first: gneissfold_carry_over says how, and in which order.
  */
 #ifndef GNEISSFOLD_H
 #define GNEISSFOLD_H
@@ -25,7 +27,7 @@ extern "C" {
 
 /* Outcomes: what every call returns. */
 enum gneissfold_outcome {
-    GNEISSFOLD_DONE = 0,                /* command handled; copy, admit, release or read done */
+    GNEISSFOLD_DONE = 0,                /* command handled; copy, admit, release, carry_over or read done */
     GNEISSFOLD_FORWARDED = 1,           /* message: the recipients are in the list, at least one */
     GNEISSFOLD_NOBODY = 2,              /* message: valid, nobody to send to */
     GNEISSFOLD_WRONG_LENGTH = 10,       /* length not 15 to 500 */
@@ -34,11 +36,11 @@ enum gneissfold_outcome {
     GNEISSFOLD_NO_SOURCE = 13,          /* source device or unit does not exist */
     GNEISSFOLD_NO_DESTINATION = 14,     /* destination does not exist */
     GNEISSFOLD_RESPONSE_TO_MANY = 15,   /* response type to a group or to the bind address */
-    GNEISSFOLD_UNSOUND = 16,            /* tables not sound */
-    GNEISSFOLD_NO_ROOM = 17,            /* reply or list too short */
+    GNEISSFOLD_UNSOUND = 16,            /* tables not sound; carry_over: old table not sound */
+    GNEISSFOLD_NO_ROOM = 17,            /* reply or list too short; carry_over: new table not nine times as long as the old one */
     GNEISSFOLD_NOT_SERVED = 18,         /* to D'0:U'0, and not one of the eleven commands */
     GNEISSFOLD_NO_COPY = 19,            /* copy: room too short, device above 0x7FFE or unit 0xFF */
-    GNEISSFOLD_OUT_OF_RANGE = 20,       /* admit: address, rights or highest unit out of range */
+    GNEISSFOLD_OUT_OF_RANGE = 20,       /* admit: address or rights out of range, unit 0 not set or unit 255 set */
     GNEISSFOLD_ALREADY_ADMITTED = 21,   /* admit: already admitted */
     GNEISSFOLD_NO_FREE_RECORD = 22,     /* admit: no free record */
     GNEISSFOLD_NOT_ADMITTED = 23        /* release: not admitted */
@@ -55,7 +57,7 @@ enum gneissfold_code {
 /* Tables: records of one size, no header. A free record is all GNEISSFOLD_FREE, so an empty table is filled with it. */
 #define GNEISSFOLD_FREE 0xFF
 
-#define GNEISSFOLD_DEVICE_SIZE 4   /* address 2, rights 1 (0 or 1), highest unit 1 (0 to 254) */
+#define GNEISSFOLD_DEVICE_SIZE 36  /* address 2, rights 1 (0 or 1), one octet 0, its set of units 32 */
 #define GNEISSFOLD_BIND_SIZE 8     /* source 3, interface type and UID 2, destination type and address 2, destination unit 1 */
 #define GNEISSFOLD_GROUP_SIZE 16   /* address 2, name length 1 (0 to 13), name 13 padded with 0x00 */
 #define GNEISSFOLD_MEMBER_SIZE 5   /* group 2, device 2, unit 1 */
@@ -70,6 +72,16 @@ enum gneissfold_code {
 #define GNEISSFOLD_BINDS_LENGTH (GNEISSFOLD_BIND_SIZE * GNEISSFOLD_MOST_BINDS)
 #define GNEISSFOLD_GROUPS_LENGTH (GNEISSFOLD_GROUP_SIZE * GNEISSFOLD_MOST_GROUPS)
 #define GNEISSFOLD_MEMBERS_LENGTH (GNEISSFOLD_MEMBER_SIZE * GNEISSFOLD_MOST_MEMBERS)
+
+/*
+ * A set of units: one bit per unit, the lowest bit of the first octet for unit 0. `units[u / 8] |= 1 << u % 8` puts unit u into it,
+ * `units[u / 8] >> u % 8 & 1` is 1 where it is there. Numbers may have gaps. Every device has unit 0, and none has unit 255.
+ */
+#define GNEISSFOLD_UNITS_LENGTH 32
+
+/* Devices in the old form, which gneissfold_carry_over reads: address 2, rights 1 (0 or 1), highest unit 1 (0 to 254). */
+#define GNEISSFOLD_OLD_DEVICE_SIZE 4
+#define GNEISSFOLD_OLD_DEVICES_LENGTH (GNEISSFOLD_OLD_DEVICE_SIZE * GNEISSFOLD_MOST_DEVICES)
 
 /* Messages. */
 #define GNEISSFOLD_HEADER_LENGTH 15   /* the octets before the payload, and the shortest message */
@@ -128,9 +140,10 @@ uint8_t gneissfold_message(
     size_t *count);
 
 /*
- * Admits a device, with its rights (1: its bind and group commands are served, 0: refused with code 0x01) and its units 0 to `highest`.
+ * Admits a device, with its rights (1: its bind and group commands are served, 0: refused with code 0x01) and its units.
  *
- * Lent until the call returns: the devices, to be changed, and the other three tables, to be read.
+ * Lent until the call returns: the devices, to be changed, and the other three tables and `units`, to be read. `units` is a set of units,
+ * always GNEISSFOLD_UNITS_LENGTH octets. It was the number of the highest unit before: a 0 written out there still compiles, as NULL.
  *
  *   0   the device's record stands in the first free place
  *   16, 20, 21, 22, in this order: refused; nothing is written
@@ -140,7 +153,7 @@ uint8_t gneissfold_admit(
     const uint8_t *binds, size_t binds_length,
     const uint8_t *groups, size_t groups_length,
     const uint8_t *members, size_t members_length,
-    uint16_t address, uint8_t rights, uint8_t highest);
+    uint16_t address, uint8_t rights, const uint8_t *units);
 
 /*
  * Releases a device, with its members and all binds that name it as source or individual destination.
@@ -156,6 +169,27 @@ uint8_t gneissfold_release(
     const uint8_t *groups, size_t groups_length,
     uint8_t *members, size_t members_length,
     uint16_t address);
+
+/*
+ * Carries the devices of the old form over: record i of the old table becomes record i of the new one, with its address, its rights and
+ * units 0 to its highest. A free record stays free. So the same units exist in both.
+ *
+ * A site with an old table is carried over once, in this order:
+ *   1. stop: nothing is called on its tables any more;
+ *   2. carry over, into a new table of nine times the length; binds, groups and members stay as they are;
+ *   3. start: all calls are lent the new table, and none the old one.
+ * A refusal writes nothing, and the old table is only read: until step 3 the site can go on as it was.
+ * An old table of full length, lent to another call by mistake, is refused there: its 256 octets are no whole number of records (16).
+ *
+ * Lent until the call returns: `old_devices`, to be read, and `devices`, to be written. What `devices` held before plays no part.
+ *
+ *   0   every octet of `devices` is written
+ *   16, 17, in this order: refused; nothing is written. 16: the old table is not sound by itself, that is, its length is not a multiple of
+ *       4 or over 256, a field is out of range, or an address is there twice. 17: devices_length is not nine times old_length
+ */
+uint8_t gneissfold_carry_over(
+    const uint8_t *old_devices, size_t old_length,
+    uint8_t *devices, size_t devices_length);
 
 /*
  * Writes the copy of a message for one recipient: the message but for octets 4 to 6, which name the device and its unit.
