@@ -15,10 +15,13 @@ static uint8_t members[GNEISSFOLD_MEMBERS_LENGTH];
 static uint8_t reply[GNEISSFOLD_LONGEST];
 static uint8_t list[GNEISSFOLD_LIST_LENGTH];
 
-static uint8_t admit(uint16_t address, uint8_t rights, uint8_t highest)
+/* Units 0 and 1: the two lowest bits of the first octet. */
+static const uint8_t units[GNEISSFOLD_UNITS_LENGTH] = {0x03};
+
+static uint8_t admit(uint16_t address, uint8_t rights)
 {
     return gneissfold_admit(devices, sizeof devices, binds, sizeof binds, groups, sizeof groups, members, sizeof members,
-                            address, rights, highest);
+                            address, rights, units);
 }
 
 static uint8_t handle(const uint8_t *message, size_t length, size_t *count)
@@ -46,9 +49,9 @@ int main(void)
     memset(groups, GNEISSFOLD_FREE, sizeof groups);
     memset(members, GNEISSFOLD_FREE, sizeof members);
 
-    printf("admit the switch: outcome %d\n", admit(SWITCH, 1, 1));
-    printf("admit the motor: outcome %d\n", admit(MOTOR, 0, 1));
-    printf("admit the motor again: outcome %d\n", admit(MOTOR, 0, 1));
+    printf("admit the switch: outcome %d\n", admit(SWITCH, 1));
+    printf("admit the motor: outcome %d\n", admit(MOTOR, 0));
+    printf("admit the motor again: outcome %d\n", admit(MOTOR, 0));
 
     outcome = handle(add_bind, sizeof add_bind, &count);
     printf("bind the switch to the motor: outcome %d, reply of %zu octets, code 0x%02X\n", outcome, count,
