@@ -1,5 +1,5 @@
 //! A curtain: a wall switch and a motor are admitted, the switch is bound to the motor, and the switch's command finds who moves.
-use gneissfold::{copy, read, recipients, Tables, HEADER_LENGTH, LIST_LENGTH, LONGEST};
+use gneissfold::{copy, read, recipients, Tables, Units, HEADER_LENGTH, LIST_LENGTH, LONGEST};
 
 const SWITCH: u16 = 0x0003;
 const MOTOR: u16 = 0x0004;
@@ -15,12 +15,13 @@ fn main() {
         0x00, 0x03, 0x01, 0x7F, 0xFF, 0xFF, 0x00, 0x00, 0x08, 0x01, 0x82, 0x00, 0x01, 0x00, 0x00,
     ];
     let mut tables = Tables::new();
+    let units = Units::up_to(1);
     let mut reply = [0; LONGEST];
     let mut list = [0; LIST_LENGTH];
     let mut room = [0; LONGEST];
 
-    println!("admit the switch: {:?}", tables.admit(SWITCH, 1, 1));
-    println!("admit the motor: {:?}", tables.admit(MOTOR, 0, 1));
+    println!("admit the switch: {:?}", tables.admit(SWITCH, 1, units));
+    println!("admit the motor: {:?}", tables.admit(MOTOR, 0, units));
     let (outcome, length) = tables.message(&add_bind, &mut reply, &mut list);
     println!(
         "bind the switch to the motor: {outcome:?}, reply of {length} octets, code 0x{:02X}",

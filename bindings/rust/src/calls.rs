@@ -1,8 +1,9 @@
-//! Safe calls of the library: message, admit, release and copy. What is lent is a slice, until the call returns.
+//! Safe calls of the library: message, admit, release, carry-over and copy. What is lent is a slice, until the call returns.
 
 use crate::lengths::RECIPIENT_SIZE;
 use crate::outcome::{told, Outcome};
 use crate::raw;
+use crate::units::Units;
 
 /// Handles a message: serves a command to D'0:U'0, or lists the recipients of any other.
 ///
@@ -49,7 +50,7 @@ pub fn recipients(list: &[u8], count: usize) -> impl Iterator<Item = (u16, u8)> 
         .map(|to| (u16::from_be_bytes([to[0], to[1]]), to[2]))
 }
 
-/// Admits a device with its rights (0 or 1) and its units 0 to the highest. Only [`Outcome::Done`] changes the devices.
+/// Admits a device with its rights (0 or 1) and its units. Only [`Outcome::Done`] changes the devices.
 pub fn admit(
     devices: &mut [u8],
     binds: &[u8],
@@ -57,9 +58,9 @@ pub fn admit(
     members: &[u8],
     address: u16,
     rights: u8,
-    highest: u8,
+    units: Units,
 ) -> Outcome {
-    // SAFETY: as in `message`.
+    // SAFETY: as in `message`; the call reads 32 octets of units.
     told(unsafe {
         raw::gneissfold_admit(
             devices.as_mut_ptr(),
@@ -72,7 +73,7 @@ pub fn admit(
             members.len(),
             address,
             rights,
-            highest,
+            units.octets().as_ptr(),
         )
     })
 }
@@ -98,6 +99,18 @@ pub fn release(
             members.len(),
             address,
         )
+    })
+}
+
+/// Carries devices of the old form (4 octets a record) over into `devices`, which is nine times as long: record i becomes record i, with its
+/// address, its rights and units 0 to its highest, and a free one stays free. What `devices` held before plays no part.
+///
+/// A site is carried over once: stop all calls on its tables, carry over, and start again with the new devices; binds, groups and members
+/// stay as they are. [`Outcome::Unsound`], then [`Outcome::NoRoom`], say why not; nothing is written then, and the site can go on as it was.
+pub fn carry_over(old: &[u8], devices: &mut [u8]) -> Outcome {
+    // SAFETY: as in `message`.
+    told(unsafe {
+        raw::gneissfold_carry_over(old.as_ptr(), old.len(), devices.as_mut_ptr(), devices.len())
     })
 }
 

@@ -1,11 +1,15 @@
-//! The lengths of what is lent: tables, messages and the recipient list.
+//! The lengths of what is lent: tables, sets of units, messages and the recipient list.
 
 /// The octets before the payload, and the shortest message.
 pub const HEADER_LENGTH: usize = 15;
 /// The longest message, and the least room for a reply.
 pub const LONGEST: usize = 500;
-/// The devices at full size: 64 records of 4 octets.
-pub const DEVICES_LENGTH: usize = 4 * 64;
+/// A set of units: 256 bits.
+pub const UNITS_LENGTH: usize = 32;
+/// The devices at full size: 64 records of 36 octets (address 2, rights 1, one octet 0, units 32).
+pub const DEVICES_LENGTH: usize = (4 + UNITS_LENGTH) * 64;
+/// The devices of the old form at full size: 64 records of 4 octets (address 2, rights 1, highest unit 1).
+pub const OLD_DEVICES_LENGTH: usize = 4 * 64;
 /// The binds at full size: 64 records of 8 octets.
 pub const BINDS_LENGTH: usize = 8 * 64;
 /// The groups at full size: 16 records of 16 octets.

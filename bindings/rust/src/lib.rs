@@ -1,6 +1,7 @@
 //! The bind and group part of a HAN-FUN concentrator: safe calls of the proved library `libgneissfold.a`.
 //!
-//! The library has no state. The caller keeps the four tables, and lends them to each call; [`Tables`] keeps them at full size.
+//! The library has no state. The caller keeps the four tables, and lends them to each call; [`Tables`] keeps them at full size. A site whose
+//! device records have 4 octets begins with [`carry_over`] or [`Tables::carried_over`].
 //! Every call answers on any octets and any lengths, and its whole answer is proved (`crates/gneissfold` of the repository).
 //! What C leaves to the caller, that no pointer is null and that nothing lent to be written overlaps, Rust's references say.
 #![no_std]
@@ -12,12 +13,14 @@ mod lengths;
 mod outcome;
 mod raw;
 mod tables;
+mod units;
 
-pub use calls::{admit, copy, message, recipients, release};
+pub use calls::{admit, carry_over, copy, message, recipients, release};
 pub use fields::{read, Fields};
 pub use lengths::{
     BINDS_LENGTH, DEVICES_LENGTH, GROUPS_LENGTH, HEADER_LENGTH, LIST_LENGTH, LONGEST,
-    MEMBERS_LENGTH, RECIPIENT_SIZE,
+    MEMBERS_LENGTH, OLD_DEVICES_LENGTH, RECIPIENT_SIZE, UNITS_LENGTH,
 };
 pub use outcome::Outcome;
 pub use tables::{Tables, FREE};
+pub use units::Units;

@@ -2,9 +2,10 @@
 
 /// What a call answers, with the paper's numbers: `outcome as u8` is the number.
 #[derive(Clone, Copy, Debug, PartialEq, Eq, Hash)]
+#[must_use = "a refusal shows here alone"]
 #[repr(u8)]
 pub enum Outcome {
-    /// Command handled; copy, admit, release or read done.
+    /// Command handled; copy, admit, release, carry-over or read done.
     Done = 0,
     /// The recipients are in the list, at least one.
     Forwarded = 1,
@@ -22,15 +23,15 @@ pub enum Outcome {
     NoDestination = 14,
     /// Response type to a group or to the bind address.
     ResponseToMany = 15,
-    /// Tables not sound.
+    /// Tables not sound; carry-over: old table not sound.
     Unsound = 16,
-    /// Reply or list too short.
+    /// Reply or list too short; carry-over: new table not nine times as long as the old one.
     NoRoom = 17,
     /// To D'0:U'0, and not one of the eleven commands.
     NotServed = 18,
     /// Copy: room too short, device above 0x7FFE or unit 0xFF.
     NoCopy = 19,
-    /// Admit: address, rights or highest unit out of range.
+    /// Admit: address or rights out of range, unit 0 not in the set or unit 255 in it.
     OutOfRange = 20,
     /// Admit: already admitted.
     AlreadyAdmitted = 21,

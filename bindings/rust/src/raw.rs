@@ -1,4 +1,4 @@
-//! The library's five calls, as C sees them (`include/gneissfold.h`).
+//! The library's six calls, as C sees them (`include/gneissfold.h`).
 
 extern "C" {
     pub fn gneissfold_message(
@@ -29,7 +29,7 @@ extern "C" {
         members_length: usize,
         address: u16,
         rights: u8,
-        highest: u8,
+        units: *const u8,
     ) -> u8;
     pub fn gneissfold_release(
         devices: *mut u8,
@@ -41,6 +41,12 @@ extern "C" {
         members: *mut u8,
         members_length: usize,
         address: u16,
+    ) -> u8;
+    pub fn gneissfold_carry_over(
+        old_devices: *const u8,
+        old_length: usize,
+        devices: *mut u8,
+        devices_length: usize,
     ) -> u8;
     pub fn gneissfold_copy(
         message: *const u8,

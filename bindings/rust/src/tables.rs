@@ -1,8 +1,11 @@
 //! The four tables, kept at full size, and the calls on them.
 
 use crate::calls;
-use crate::lengths::{BINDS_LENGTH, DEVICES_LENGTH, GROUPS_LENGTH, MEMBERS_LENGTH};
+use crate::lengths::{
+    BINDS_LENGTH, DEVICES_LENGTH, GROUPS_LENGTH, MEMBERS_LENGTH, OLD_DEVICES_LENGTH,
+};
 use crate::outcome::Outcome;
+use crate::units::Units;
 
 /// The octet that a free record is made of.
 pub const FREE: u8 = 0xFF;
@@ -27,6 +30,27 @@ impl Tables {
         }
     }
 
+    /// The tables of a site whose devices are of the old form: these [carried over](crate::carry_over), and the other three as they are.
+    ///
+    /// The old devices alone are looked at, and [`Outcome::Unsound`] is of them. Whether the tables fit each other every later call asks.
+    pub fn carried_over(
+        old: &[u8; OLD_DEVICES_LENGTH],
+        binds: [u8; BINDS_LENGTH],
+        groups: [u8; GROUPS_LENGTH],
+        members: [u8; MEMBERS_LENGTH],
+    ) -> Result<Tables, Outcome> {
+        let mut devices = [FREE; DEVICES_LENGTH];
+        match calls::carry_over(old, &mut devices) {
+            Outcome::Done => Ok(Tables {
+                devices,
+                binds,
+                groups,
+                members,
+            }),
+            outcome => Err(outcome),
+        }
+    }
+
     /// [`message`](crate::message) on these tables.
     pub fn message(
         &mut self,
@@ -46,7 +70,7 @@ impl Tables {
     }
 
     /// [`admit`](crate::admit) on these tables.
-    pub fn admit(&mut self, address: u16, rights: u8, highest: u8) -> Outcome {
+    pub fn admit(&mut self, address: u16, rights: u8, units: Units) -> Outcome {
         calls::admit(
             &mut self.devices,
             &self.binds,
@@ -54,7 +78,7 @@ impl Tables {
             &self.members,
             address,
             rights,
-            highest,
+            units,
         )
     }
 

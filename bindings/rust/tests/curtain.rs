@@ -1,6 +1,6 @@
 //! Every call once, over the curtain of the example, and a refusal of each.
 use gneissfold::{
-    code, copy, read, recipients, Outcome, Tables, HEADER_LENGTH, LIST_LENGTH, LONGEST,
+    code, copy, read, recipients, Outcome, Tables, Units, HEADER_LENGTH, LIST_LENGTH, LONGEST,
 };
 
 #[test]
@@ -13,6 +13,7 @@ fn a_switch_moves_its_motor() {
         0x00, 0x03, 0x01, 0x7F, 0xFF, 0xFF, 0x00, 0x00, 0x08, 0x01, 0x82, 0x00, 0x01, 0x00, 0x00,
     ];
     let mut tables = Tables::new();
+    let units = Units::up_to(1);
     let mut reply = [0xAA; LONGEST];
     let mut list = [0xAA; LIST_LENGTH];
     let mut room = [0xAA; LONGEST];
@@ -21,11 +22,14 @@ fn a_switch_moves_its_motor() {
         tables.message(&command, &mut reply, &mut list),
         (Outcome::NoSource, 0)
     );
-    assert_eq!(tables.admit(3, 1, 1), Outcome::Done);
-    assert_eq!(tables.admit(4, 0, 1), Outcome::Done);
-    assert_eq!(tables.admit(4, 0, 1), Outcome::AlreadyAdmitted);
-    assert_eq!(tables.admit(0x7FFF, 0, 1), Outcome::OutOfRange);
-    assert_eq!(tables.devices[..9], [0, 3, 1, 1, 0, 4, 0, 1, 0xFF]);
+    assert_eq!(tables.admit(3, 1, units), Outcome::Done);
+    assert_eq!(tables.admit(4, 0, units), Outcome::Done);
+    assert_eq!(tables.admit(4, 0, units), Outcome::AlreadyAdmitted);
+    assert_eq!(tables.admit(0x7FFF, 0, units), Outcome::OutOfRange);
+    assert_eq!(tables.devices[..5], [0, 3, 1, 0, 0b11]);
+    assert_eq!(tables.devices[5..36], [0; 31]);
+    assert_eq!(tables.devices[36..41], [0, 4, 0, 0, 0b11]);
+    assert_eq!(tables.devices[72], 0xFF);
 
     assert_eq!(
         tables.message(&add_bind, &mut reply, &mut list),
