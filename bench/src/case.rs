@@ -1,5 +1,7 @@
 //! The cases that are measured: tables, a call, and the outcome that it must have, so that no figure is of a call that went another way.
 
+use gneissfold::Units;
+
 /// What is lent to every call.
 #[derive(Clone)]
 pub struct State {
@@ -14,6 +16,8 @@ pub struct State {
 pub enum Call {
     Message(Vec<u8>),
     Release(u16),
+    /// Of this old device table, into the devices that are lent.
+    CarryOver(Vec<u8>),
 }
 
 pub struct Case {
@@ -25,6 +29,8 @@ pub struct Case {
 }
 
 const DEVICES: u16 = 64;
+/// Of every device.
+const HIGHEST_UNIT: u8 = 3;
 /// The interface of the switch's messages and binds: server, UID 0x0200.
 const INTERFACE: u16 = 0x8200;
 const GROUP: u16 = 1;
@@ -75,13 +81,25 @@ fn bind(from: (u16, u8), to: (u16, u8)) -> Vec<u8> {
     octets
 }
 
+/// 64 device records: address, rights 1, and what says that there are units 0 to the highest.
+fn devices(units: &[u8]) -> Vec<u8> {
+    let mut octets = Vec::new();
+    for address in 1..=DEVICES {
+        word(&mut octets, address);
+        octets.push(1);
+        octets.extend_from_slice(units);
+    }
+    octets
+}
+
+fn new_devices() -> Vec<u8> {
+    let mut units = vec![0];
+    units.extend_from_slice(Units::up_to(HIGHEST_UNIT).octets());
+    devices(&units)
+}
+
 /// 64 devices; `binds` binds, of which the first `matching` are the switch's; 16 groups; `members` members, all of the first group.
 fn state(binds: usize, matching: usize, members: usize, room: (usize, usize)) -> State {
-    let mut devices = Vec::new();
-    for address in 1..=DEVICES {
-        word(&mut devices, address);
-        devices.extend_from_slice(&[1, 3]);
-    }
     let mut bound = Vec::new();
     for n in 0..binds {
         let from = if n < matching {
@@ -106,7 +124,7 @@ fn state(binds: usize, matching: usize, members: usize, room: (usize, usize)) ->
         group.push(unit);
     }
     State {
-        devices,
+        devices: new_devices(),
         binds: filled(bound, 8, room.0),
         groups,
         members: filled(group, 5, room.1),
@@ -198,6 +216,12 @@ pub fn cases() -> Vec<Case> {
         Case {
             name: "release".into(),
             call: Call::Release(2),
+            state: full(),
+            answer: (0, 0),
+        },
+        Case {
+            name: "carry-over of 64 devices".into(),
+            call: Call::CarryOver(devices(&[HIGHEST_UNIT])),
             state: full(),
             answer: (0, 0),
         },

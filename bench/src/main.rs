@@ -42,6 +42,7 @@ fn part(state: &mut State, call: &Call) -> (u8, usize) {
             gneissfold::release(devices, binds, groups, members, *address).number(),
             0,
         ),
+        Call::CarryOver(old) => (gneissfold::carry_over(old, devices).number(), 0),
     }
 }
 
@@ -60,6 +61,7 @@ fn other(state: &mut State, call: &Call) -> (u8, usize) {
             devices, binds, groups, members, octets, reply, list, &mut count,
         ),
         Call::Release(address) => other_reading::release(devices, binds, groups, members, *address),
+        Call::CarryOver(old) => other_reading::carry_over(old, devices),
     };
     (outcome, count)
 }
