@@ -1,20 +1,25 @@
 //! A second, independent reading of the requirements paper, for tests only.
 //!
 //! It is written straight from the paper and favours obviousness. Section
-//! names in the comments are the paper's. Octet numbers in the comments count
-//! from 1, as in the paper; indices in the code count from 0.
+//! names in the comments are the paper's; "CR 2" is the change request of that
+//! number. Octet numbers in the comments count from 1, as in the paper; indices
+//! in the code count from 0.
 
+mod carry_over;
 mod commands;
 mod header;
 mod links;
 mod recipients;
 mod tables;
+mod unit_set;
 
+pub use carry_over::carry_over;
 pub use header::{copy, read};
 pub use links::links;
 
 use header::Header;
-use tables::{free_where, word, Tables};
+use tables::{address_in_range, device_of, free_where, word, Tables};
+use unit_set::UnitSet;
 
 /// The outcome numbers ("Outcomes").
 mod outcome {
@@ -130,19 +135,18 @@ pub fn admit(
     members: &[u8],
     address: u16,
     rights: u8,
-    highest: u8,
+    units: &UnitSet,
 ) -> u8 {
     if !tables::sound(devices, binds, groups, members) {
         return outcome::NOT_SOUND;
     }
-    if !(1..=HIGHEST_ADDRESS).contains(&address) || rights > 1 || highest == NO_UNIT {
+    if !address_in_range(address) || rights > 1 || !unit_set::in_range(units) {
         return outcome::ADMIT_RANGE;
     }
     if tables::admitted(devices, address) {
         return outcome::ALREADY_ADMITTED;
     }
-    let [high, low] = address.to_be_bytes();
-    if tables::store(devices, &[high, low, rights, highest]) {
+    if tables::store(devices, &device_of(address, rights, units)) {
         outcome::DONE
     } else {
         outcome::NO_FREE_RECORD

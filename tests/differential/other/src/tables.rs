@@ -1,9 +1,11 @@
-//! The four tables ("Tables").
+//! The four tables ("Tables"), devices as "CR 2" lays them out.
 
+use crate::unit_set::{self, UnitSet, UNIT_SET};
 use crate::{HIGHEST_ADDRESS, NO_UNIT};
 
-/// Octets of one record.
-pub const DEVICE: usize = 4;
+/// Octets of one record. A device's: "address 2, rights 1, one octet 0, then
+/// 32 octets with one bit per unit".
+pub const DEVICE: usize = 4 + UNIT_SET;
 pub const BIND: usize = 8;
 pub const GROUP: usize = 16;
 pub const MEMBER: usize = 5;
@@ -87,7 +89,20 @@ pub fn admitted(devices: &[u8], address: u16) -> bool {
     device_record(devices, address).is_some()
 }
 
-/// "An admitted device has units 0 to its highest. D'0000 is the
+/// A device's record.
+pub fn device_of(address: u16, rights: u8, units: &UnitSet) -> [u8; DEVICE] {
+    let mut device = [0; DEVICE];
+    put(&mut device, 0, address);
+    device[2] = rights;
+    device[4..].copy_from_slice(units);
+    device
+}
+
+fn units_of(device: &[u8]) -> &UnitSet {
+    device[4..].try_into().unwrap()
+}
+
+/// A device has the units that are set in its record. "D'0000 is the
 /// concentrator: never in the table, unit 0 only".
 pub fn unit_exists(devices: &[u8], device: u16, unit: u8) -> bool {
     if device == 0 {
@@ -95,7 +110,7 @@ pub fn unit_exists(devices: &[u8], device: u16, unit: u8) -> bool {
     }
     match device_record(devices, device) {
         None => false,
-        Some(record) => unit <= record[3],
+        Some(record) => unit_set::has(units_of(record), unit),
     }
 }
 
@@ -131,16 +146,19 @@ pub fn sound(devices: &[u8], binds: &[u8], groups: &[u8], members: &[u8]) -> boo
         && no_two_equal(binds, BIND, BIND)
 }
 
-fn fits(table: &[u8], size: usize, most: usize) -> bool {
+pub fn fits(table: &[u8], size: usize, most: usize) -> bool {
     table.len().is_multiple_of(size) && table.len() / size <= most
 }
 
-fn address_in_range(address: u16) -> bool {
+pub fn address_in_range(address: u16) -> bool {
     (1..=HIGHEST_ADDRESS).contains(&address)
 }
 
 fn device_in_range(device: &[u8]) -> bool {
-    address_in_range(word(device, 0)) && device[2] <= 1 && device[3] != NO_UNIT
+    address_in_range(word(device, 0))
+        && device[2] <= 1
+        && device[3] == 0
+        && unit_set::in_range(units_of(device))
 }
 
 fn group_in_range(group: &[u8]) -> bool {
@@ -175,11 +193,11 @@ pub fn bind_fields_hold(devices: &[u8], groups: &[u8], bind: &[u8]) -> bool {
 }
 
 /// Whether the first `key` octets tell every two used records apart.
-fn no_two_equal(table: &[u8], size: usize, key: usize) -> bool {
+pub fn no_two_equal(table: &[u8], size: usize, key: usize) -> bool {
     table.chunks_exact(size).enumerate().all(|(at, record)| {
         is_free(record)
             || table[(at + 1) * size..]
                 .chunks_exact(size)
-                .all(|later| is_free(later) || later[..key] != record[..key])
+                .all(|later| later[..key] != record[..key] || is_free(later))
     })
 }

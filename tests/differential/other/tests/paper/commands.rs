@@ -1,25 +1,13 @@
 //! Sentences of "Commands and codes", admit and release among them.
 
-use crate::world::{World, BIND, GROUP, P1, P2};
-use other_reading::{admit, release};
+use crate::world::{device, units, World, BIND, GROUP, P1, P2};
 
 #[test]
 fn delete_group_takes_members_and_binds() {
     let mut world = World::of_the_rows();
     assert_eq!(world.add_bind(&P2), [0]);
     // To D'0001, which shares only the number.
-    assert_eq!(
-        admit(
-            &mut world.devices,
-            &world.binds,
-            &world.groups,
-            &world.members,
-            1,
-            0,
-            0
-        ),
-        0
-    );
+    assert_eq!(world.admit(1, 0, units(&[0x01])), 0);
     assert_eq!(world.add_bind(&[0, 3, 1, 0x82, 0, 0, 1, 0]), [0]);
     assert_eq!(world.command((3, 0), GROUP, 2, &[0x80, 1]), [0]);
     assert!(world.members.iter().all(|&octet| octet == 0xFF));
@@ -54,14 +42,8 @@ fn free_records_never_match() {
             [2]
         );
     }
-    let World {
-        devices,
-        binds,
-        groups,
-        members,
-    } = &mut world;
-    assert_eq!(release(devices, binds, groups, members, 0xFFFF), 23);
-    assert_eq!(release(devices, binds, groups, members, 0), 23);
+    assert_eq!(world.release(0xFFFF), 23);
+    assert_eq!(world.release(0), 23);
 }
 
 #[test]
@@ -69,24 +51,30 @@ fn release_takes_members_and_binds() {
     let mut world = World::of_the_rows();
     assert_eq!(world.add_bind(&P1), [0]);
     assert_eq!(world.add_bind(&P2), [0]);
-    let World {
-        devices,
-        binds,
-        groups,
-        members,
-    } = &mut world;
-    assert_eq!(release(devices, binds, groups, members, 4), 0);
-    assert_eq!(binds[..16], [[0xFF; 8], P2].concat());
-    assert_eq!(members[5..10], [0xFF; 5]);
-    assert_eq!(release(devices, binds, groups, members, 4), 23);
-    assert_eq!(admit(devices, binds, groups, members, 0x7FFF, 0, 0), 20);
-    assert_eq!(admit(devices, binds, groups, members, 0, 0, 0), 20);
-    assert_eq!(admit(devices, binds, groups, members, 3, 2, 0), 20);
-    assert_eq!(admit(devices, binds, groups, members, 3, 0, 255), 20);
-    assert_eq!(admit(devices, binds, groups, members, 3, 0, 254), 21);
-    assert_eq!(admit(devices, binds, groups, members, 0x7FFE, 1, 254), 0);
-    assert_eq!(devices[4..8], [0x7F, 0xFE, 1, 254]);
-    members[0] = 0x80;
-    assert_eq!(admit(devices, binds, groups, members, 9, 0, 0), 16);
-    assert_eq!(release(devices, binds, groups, members, 3), 16);
+    assert_eq!(world.release(4), 0);
+    assert_eq!(world.binds[..16], [[0xFF; 8], P2].concat());
+    assert_eq!(world.members[5..10], [0xFF; 5]);
+    assert_eq!(world.release(4), 23);
+    let room = 36..72;
+    assert_eq!(world.devices[room.clone()], [0xFF; 36]);
+    assert_eq!(world.admit(0x7FFE, 1, units(&[0x01])), 0);
+    assert_eq!(world.devices[room], device(0x7FFE, 1, units(&[0x01])));
+}
+
+#[test]
+fn the_order_of_admission() {
+    let mut world = World::of_the_rows();
+    let one = units(&[0x01]);
+    assert_eq!(world.admit(0x7FFF, 0, one), 20);
+    assert_eq!(world.admit(0, 0, one), 20);
+    assert_eq!(world.admit(3, 2, one), 20);
+    assert_eq!(world.admit(3, 0, units(&[])), 20);
+    assert_eq!(world.admit(3, 0, one), 21);
+    world.devices.truncate(108);
+    assert_eq!(world.admit(9, 2, one), 20);
+    assert_eq!(world.admit(3, 0, one), 21);
+    assert_eq!(world.admit(9, 0, one), 22);
+    world.members[0] = 0x80;
+    assert_eq!(world.admit(9, 2, one), 16);
+    assert_eq!(world.release(3), 16);
 }

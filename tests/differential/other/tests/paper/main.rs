@@ -1,6 +1,8 @@
 //! The other reading held against the paper's own rows and sentences.
 
+mod carry_over;
 mod commands;
 mod outcomes;
 mod rows;
+mod units;
 mod world;

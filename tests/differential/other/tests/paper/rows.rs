@@ -99,6 +99,6 @@ fn the_printed_example() {
     ]
     .concat();
     assert_eq!(links(&input), "outcome 1 count 2\n0004:02\n0005:01\n");
-    assert_eq!(links(&input[..1663]), "short input\n");
-    assert_eq!(links(&input[..1664]), "outcome 10 count 0\n");
+    assert_eq!(links(&input[..3711]), "short input\n");
+    assert_eq!(links(&input[..3712]), "outcome 10 count 0\n");
 }

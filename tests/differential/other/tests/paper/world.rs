@@ -1,6 +1,6 @@
 //! The tables of "Rows to try", and the calls that the tests make on them.
 
-use other_reading::message;
+use other_reading::{admit, message, release};
 
 /// The interfaces of the commands, by their UID.
 pub const BIND: u8 = 2;
@@ -8,6 +8,22 @@ pub const GROUP: u8 = 3;
 /// The binds of the rows.
 pub const P1: [u8; 8] = [0x00, 0x03, 0x01, 0x82, 0x00, 0x00, 0x04, 0x02];
 pub const P2: [u8; 8] = [0x00, 0x03, 0x01, 0x82, 0x00, 0x80, 0x01, 0x00];
+
+/// The set of units whose first octets these are; the rest is 0.
+pub fn units(first: &[u8]) -> [u8; 32] {
+    let mut units = [0; 32];
+    units[..first.len()].copy_from_slice(first);
+    units
+}
+
+/// "address 2, rights 1, one octet 0, then 32 octets with one bit per unit".
+pub fn device(address: u16, rights: u8, units: [u8; 32]) -> [u8; 36] {
+    let [high, low] = address.to_be_bytes();
+    let mut device = [0; 36];
+    device[..3].copy_from_slice(&[high, low, rights]);
+    device[4..].copy_from_slice(&units);
+    device
+}
 
 #[derive(Clone, PartialEq, Debug)]
 pub struct World {
@@ -24,7 +40,7 @@ pub struct Answer(pub u8, pub Vec<u8>);
 impl World {
     fn free() -> World {
         World {
-            devices: vec![0xFF; 256],
+            devices: vec![0xFF; 2304],
             binds: vec![0xFF; 512],
             groups: vec![0xFF; 256],
             members: vec![0xFF; 640],
@@ -35,7 +51,9 @@ impl World {
     /// "S"; members 5:01, 4:02, 3:01 in that order".
     pub fn of_the_rows() -> World {
         let mut world = World::free();
-        world.devices[..12].copy_from_slice(&[0, 3, 1, 2, 0, 4, 0, 2, 0, 5, 0, 1]);
+        let devices = [(3, 1, 0x07), (4, 0, 0x07), (5, 0, 0x03)];
+        let devices = devices.map(|(address, rights, set)| device(address, rights, units(&[set])));
+        world.devices[..108].copy_from_slice(&devices.concat());
         world.groups[..16].fill(0);
         world.groups[..4].copy_from_slice(&[0, 1, 1, b'S']);
         world.members[..15].copy_from_slice(&[0, 1, 0, 5, 1, 0, 1, 0, 4, 2, 0, 1, 0, 3, 1]);
@@ -90,6 +108,31 @@ impl World {
 
     pub fn add_bind(&mut self, bind: &[u8]) -> Vec<u8> {
         self.command((3, 1), BIND, 1, bind)
+    }
+
+    pub fn admit(&mut self, address: u16, rights: u8, units: [u8; 32]) -> u8 {
+        let before = self.clone();
+        let World {
+            devices,
+            binds,
+            groups,
+            members,
+        } = self;
+        let outcome = admit(devices, binds, groups, members, address, rights, &units);
+        if outcome != 0 {
+            assert_eq!(*self, before);
+        }
+        outcome
+    }
+
+    pub fn release(&mut self, address: u16) -> u8 {
+        let World {
+            devices,
+            binds,
+            groups,
+            members,
+        } = self;
+        release(devices, binds, groups, members, address)
     }
 }
 
