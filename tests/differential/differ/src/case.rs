@@ -6,6 +6,7 @@ mod print;
 
 pub use print::hexadecimal;
 
+use crate::generate::UnitSet;
 use crate::part;
 
 #[derive(Clone, PartialEq, Default)]
@@ -26,7 +27,7 @@ pub enum Call {
     Admit {
         address: u16,
         rights: u8,
-        highest: u8,
+        units: UnitSet,
     },
     Release {
         address: u16,
@@ -40,6 +41,11 @@ pub enum Call {
     Read {
         msg: Vec<u8>,
         fields: [u16; 12],
+    },
+    /// Old devices and new ones; the tables play no part.
+    CarryOver {
+        old: Vec<u8>,
+        new: Vec<u8>,
     },
 }
 
@@ -67,7 +73,7 @@ impl Answer {
 }
 
 /// A case's call as `$side` answers it. The part and the other reading have
-/// the same five calls. A call without a count or length has 0 here; that the
+/// the same six calls. A call without a count or length has 0 here; that the
 /// part writes the others shows in `part.c`, which has a stale one for it.
 macro_rules! answer {
     ($side:ident, $case:expr) => {{
@@ -89,8 +95,8 @@ macro_rules! answer {
             &mut Call::Admit {
                 address,
                 rights,
-                highest,
-            } => $side::admit(devices, binds, groups, members, address, rights, highest),
+                ref units,
+            } => $side::admit(devices, binds, groups, members, address, rights, units),
             &mut Call::Release { address } => {
                 $side::release(devices, binds, groups, members, address)
             }
@@ -101,6 +107,7 @@ macro_rules! answer {
                 unit,
             } => $side::copy(msg, room, *device, *unit, &mut count),
             Call::Read { msg, fields } => $side::read(msg, fields),
+            Call::CarryOver { old, new } => $side::carry_over(old, new),
         };
         Answer {
             outcome,

@@ -3,15 +3,19 @@
 mod commands;
 mod forwarded;
 mod message;
+mod old;
 mod records;
 mod sound;
+mod units;
 mod unsound;
 mod view;
 
 pub use commands::COMMANDS;
 pub use forwarded::REQUESTS;
 pub use message::damage;
-pub use records::word;
+pub use old::{new_devices, old_devices};
+pub use records::{word, DEVICE};
 pub use sound::{constructed_world, crowded_world, free_world};
+pub use units::{has, near, perhaps_set, some_unit, UnitSet};
 pub use unsound::{random_world, spoil};
 pub use view::{some_address, View, UIDS};

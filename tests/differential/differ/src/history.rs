@@ -7,6 +7,7 @@ mod standing;
 pub use entry::Entry;
 pub use standing::{octets, Standing, Unit};
 
+use crate::generate::UnitSet;
 use entry::{Bind, Member};
 
 #[derive(Default)]
@@ -70,8 +71,8 @@ impl History {
         ever
     }
 
-    /// Admitted devices with their highest unit.
-    pub fn devices(&self) -> Vec<(u16, u8)> {
+    /// Admitted devices with their units.
+    pub fn devices(&self) -> Vec<(u16, UnitSet)> {
         self.standing(Entry::admitted, |later, device| {
             later.released() == Some(device.0)
         })

@@ -62,10 +62,10 @@ impl Lent<'_> {
 }
 
 /// One call: its answer is the outcome, and the count or length.
-fn call(which: u8, number: u16, first: u8, second: u8, lent: &mut [Lent]) -> (u8, usize) {
+fn call(which: u8, number: u16, octet: u8, lent: &mut [Lent]) -> (u8, usize) {
     let mut request = vec![which];
     request.extend_from_slice(&number.to_le_bytes());
-    request.extend_from_slice(&[first, second, lent.len() as u8]);
+    request.extend_from_slice(&[octet, lent.len() as u8]);
     for slice in lent.iter() {
         request.extend_from_slice(&(slice.octets().len() as u32).to_le_bytes());
         request.extend_from_slice(slice.octets());
@@ -114,7 +114,7 @@ pub fn message(
         Lent::Written(reply),
         Lent::Written(list),
     ];
-    let (outcome, n) = call(1, 0, 0, 0, lent);
+    let (outcome, n) = call(1, 0, 0, lent);
     *count = n;
     outcome
 }
@@ -126,15 +126,16 @@ pub fn admit(
     members: &[u8],
     address: u16,
     rights: u8,
-    highest: u8,
+    units: &[u8; 32],
 ) -> u8 {
     let lent = &mut [
         Lent::Written(devices),
         Lent::Kept(binds),
         Lent::Kept(groups),
         Lent::Kept(members),
+        Lent::Kept(units),
     ];
-    call(2, address, rights, highest, lent).0
+    call(2, address, rights, lent).0
 }
 
 pub fn release(
@@ -150,32 +151,26 @@ pub fn release(
         Lent::Kept(groups),
         Lent::Written(members),
     ];
-    call(3, address, 0, 0, lent).0
+    call(3, address, 0, lent).0
 }
 
 pub fn copy(msg: &[u8], room: &mut [u8], device: u16, unit: u8, length: &mut usize) -> u8 {
-    let (outcome, n) = call(
-        4,
-        device,
-        unit,
-        0,
-        &mut [Lent::Kept(msg), Lent::Written(room)],
-    );
+    let lent = &mut [Lent::Kept(msg), Lent::Written(room)];
+    let (outcome, n) = call(4, device, unit, lent);
     *length = n;
     outcome
 }
 
 pub fn read(msg: &[u8], fields: &mut [u16; 12]) -> u8 {
     let mut octets: Vec<u8> = fields.iter().flat_map(|f| f.to_le_bytes()).collect();
-    let (outcome, _) = call(
-        5,
-        0,
-        0,
-        0,
-        &mut [Lent::Kept(msg), Lent::Written(&mut octets)],
-    );
+    let lent = &mut [Lent::Kept(msg), Lent::Written(&mut octets)];
+    let (outcome, _) = call(5, 0, 0, lent);
     for (field, two) in fields.iter_mut().zip(octets.chunks_exact(2)) {
         *field = u16::from_le_bytes([two[0], two[1]]);
     }
     outcome
+}
+
+pub fn carry_over(old: &[u8], new: &mut [u8]) -> u8 {
+    call(6, 0, 0, &mut [Lent::Kept(old), Lent::Written(new)]).0
 }

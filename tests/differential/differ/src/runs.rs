@@ -2,7 +2,7 @@
 //! 3 .. over any run").
 
 use crate::case::{hexadecimal, Answer, Call, Case, World};
-use crate::generate::{self, View, REQUESTS, UIDS};
+use crate::generate::{self, near, some_unit, View, REQUESTS, UIDS};
 use crate::history::{octets, Entry, History, Standing, Unit};
 use crate::rng::Rng;
 use crate::single::{admit, least_list, release_address};
@@ -10,6 +10,10 @@ use crate::tally::Tally;
 
 /// Most senders asked after at one check.
 const ASKED: usize = 10;
+/// Units asked after at one check.
+const ASKED_UNITS: usize = 2;
+/// D'7FFF:U'FF.
+const BIND_ADDRESS: [u8; 3] = [0x7F, 0xFF, 0xFF];
 
 pub struct Runs<'a> {
     pub rng: &'a mut Rng,
@@ -118,9 +122,9 @@ impl Runs<'_> {
                 world,
                 &standing,
                 sender,
-                [0x7F, 0xFF, 0xFF],
+                BIND_ADDRESS,
                 interface,
-                &expected,
+                Some(&expected),
             )?;
         }
         for group in history.groups_ever() {
@@ -135,11 +139,40 @@ impl Runs<'_> {
                     sender,
                     [high, low, 0xFF],
                     0x8200,
-                    &expected,
+                    Some(&expected),
                 )?;
             }
         }
+        for _ in 0..ASKED_UNITS {
+            self.check_unit(world, &standing)?;
+        }
         Ok(())
+    }
+
+    /// A unit of an admitted device, or one near it, as destination and as
+    /// sender: it exists if and only if it was admitted.
+    fn check_unit(&mut self, world: &World, standing: &Standing) -> Result<(), String> {
+        let Some((device, units)) = self.rng.pick(&standing.devices) else {
+            return Ok(());
+        };
+        let mut unit = some_unit(self.rng, &units);
+        if self.rng.percent(60) {
+            unit = near(self.rng, unit);
+        }
+        let asked = (device, unit);
+        let [high, low] = device.to_be_bytes();
+        let there = [asked];
+        let expected = standing.exists(asked).then_some(&there[..]);
+        self.check_forward(world, standing, (0, 0), [high, low, unit], 0x8200, expected)?;
+        let expected = standing.linked(asked, 0x8200);
+        self.check_forward(
+            world,
+            standing,
+            asked,
+            BIND_ADDRESS,
+            0x8200,
+            Some(&expected),
+        )
     }
 
     /// A member or any admitted unit, by the history.
@@ -149,11 +182,13 @@ impl Runs<'_> {
             self.rng.pick(&standing.devices),
         ) {
             (Some(member), _) if self.rng.percent(60) => (generate::word(&member, 2), member[4]),
-            (_, Some((device, highest))) => (device, highest),
+            (_, Some((device, units))) => (device, some_unit(self.rng, &units)),
             _ => (0, 0),
         }
     }
 
+    /// Asks for a message to be forwarded, to the units expected; `None` where
+    /// its destination does not exist.
     fn check_forward(
         &mut self,
         world: &World,
@@ -161,7 +196,7 @@ impl Runs<'_> {
         sender: Unit,
         destination: [u8; 3],
         interface: u16,
-        expected: &[Unit],
+        expected: Option<&[Unit]>,
     ) -> Result<(), String> {
         let kind = REQUESTS[self.rng.below(REQUESTS.len())];
         let mut msg = octets(&[sender]);
@@ -169,15 +204,11 @@ impl Runs<'_> {
         msg.extend_from_slice(&[0, 0, self.rng.octet(), kind]);
         msg.extend_from_slice(&interface.to_be_bytes());
         msg.extend_from_slice(&[1, 0, 0]);
-        let outcome = match (standing.exists(sender), expected.is_empty()) {
-            (false, _) => 13,
-            (true, true) => 2,
-            (true, false) => 1,
-        };
-        let expected = if outcome == 1 {
-            octets(expected)
-        } else {
-            Vec::new()
+        let (outcome, expected) = match expected {
+            _ if !standing.exists(sender) => (13, Vec::new()),
+            None => (14, Vec::new()),
+            Some([]) => (2, Vec::new()),
+            Some(units) => (1, octets(units)),
         };
         let call = self.message(world, msg.clone());
         let answer = self.made(world, call)?;

@@ -1,7 +1,7 @@
 //! Random single calls, each compared in full with the other reading.
 
 use crate::case::{Call, Case, World};
-use crate::generate::{self, View};
+use crate::generate::{self, View, DEVICE};
 use crate::rng::Rng;
 use crate::tally::Tally;
 
@@ -63,17 +63,22 @@ fn some_call(rng: &mut Rng, world: &World) -> Call {
         8..=9 => Call::Release {
             address: release_address(rng, world),
         },
-        10..=14 => {
+        10..=13 => {
             let msg = some_message(rng, &view);
             copy(rng, msg)
         }
-        15..=19 => {
+        14..=16 => {
             let words: Vec<u16> = (0..12).map(|_| rng.word()).collect();
             let fields = words.try_into().unwrap();
             Call::Read {
                 msg: some_message(rng, &view),
                 fields,
             }
+        }
+        17..=19 => {
+            let old = generate::old_devices(rng);
+            let new = generate::new_devices(rng, &old, world);
+            Call::CarryOver { old, new }
         }
         _ => {
             let msg = some_message(rng, &view);
@@ -138,21 +143,20 @@ pub fn admit(rng: &mut Rng) -> Call {
         _ => generate::some_address(rng),
     };
     let rights = rng.weighted(&[(60, 1), (35, 0), (3, 2), (2, 255)]);
-    let highest = rng.weighted(&[(40, 2), (20, 0), (20, 1), (10, 9), (5, 254), (5, 255)]);
     Call::Admit {
         address,
         rights,
-        highest,
+        units: generate::perhaps_set(rng),
     }
 }
 
 pub fn release_address(rng: &mut Rng, world: &World) -> u16 {
-    let record = rng.below(world.devices.len() / 4) * 4;
+    let record = rng.below(world.devices.len() / DEVICE) * DEVICE;
     match rng.below(10) {
         0 => generate::some_address(rng),
         1 => rng.weighted(&[(1, 0), (1, 0xFFFF), (1, 0x7FFF), (1, 0x8001)]),
         // It may stand free; then 0xFFFF is asked for.
-        _ if world.devices.len() >= 4 => generate::word(&world.devices, record),
+        _ if world.devices.len() >= DEVICE => generate::word(&world.devices, record),
         _ => 1,
     }
 }

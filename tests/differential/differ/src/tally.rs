@@ -35,6 +35,7 @@ impl Tally {
             Call::Release { .. } => "release",
             Call::Copy { .. } => "copy",
             Call::Read { .. } => "read",
+            Call::CarryOver { .. } => "carry_over",
         };
         *self.outcomes.entry((name, answer.outcome)).or_default() += 1;
         if let (Call::Message { msg, reply, .. }, 0) = (&answer.call, answer.outcome) {
@@ -56,12 +57,13 @@ impl Tally {
 
     /// Outcomes and codes of the paper that never came up.
     pub fn missing(&self) -> Vec<String> {
-        let outcomes: [(&'static str, &[u8]); 5] = [
+        let outcomes: [(&'static str, &[u8]); 6] = [
             ("message", &[0, 1, 2, 10, 11, 12, 13, 14, 15, 16, 17, 18]),
             ("admit", &[0, 16, 20, 21, 22]),
             ("release", &[0, 16, 23]),
             ("copy", &[0, 10, 11, 12, 19]),
             ("read", &[0, 10, 11, 12]),
+            ("carry_over", &[0, 16, 17]),
         ];
         let mut missing = Vec::new();
         for (name, numbers) in outcomes {

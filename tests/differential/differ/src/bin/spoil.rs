@@ -197,12 +197,12 @@ struct Request {
 
 /// The next request; nothing at the input's end.
 fn request(from: &mut impl Read) -> io::Result<Option<Request>> {
-    let mut octets = vec![0; 6];
+    let mut octets = vec![0; 5];
     if from.read(&mut octets[..1])? == 0 {
         return Ok(None);
     }
     from.read_exact(&mut octets[1..])?;
-    let (call, count) = (octets[0], octets[5]);
+    let (call, count) = (octets[0], octets[4]);
     let mut lent = Vec::new();
     for _ in 0..count {
         let mut length = [0; 4];

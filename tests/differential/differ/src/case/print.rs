@@ -27,12 +27,10 @@ impl fmt::Display for Call {
             Call::Admit {
                 address,
                 rights,
-                highest,
+                units,
             } => {
-                writeln!(
-                    to,
-                    "  admit   {address:04X} rights {rights:02X} highest {highest:02X}"
-                )
+                writeln!(to, "  admit   {address:04X} rights {rights:02X}")?;
+                writeln!(to, "  units   {}", hexadecimal(units))
             }
             Call::Release { address } => writeln!(to, "  release {address:04X}"),
             Call::Copy {
@@ -48,6 +46,10 @@ impl fmt::Display for Call {
             Call::Read { msg, fields } => {
                 writeln!(to, "  read    {}", hexadecimal(msg))?;
                 writeln!(to, "  fields  {fields:04X?}")
+            }
+            Call::CarryOver { old, new } => {
+                writeln!(to, "  old     {}", hexadecimal(old))?;
+                writeln!(to, "  new     {}", hexadecimal(new))
             }
         }
     }

@@ -1,18 +1,24 @@
 //! Tables that are sound ("Tables are sound if"): free, crowded, and built record by record.
 
-use super::records::{word, BIND, DEVICE, GROUP, MEMBER, MOST};
+use super::records::{word, BIND, DEVICE, GROUP, MEMBER, MOST, UNITS};
+use super::units::{has, set_of, some_set, UnitSet};
 use super::view::{some_address, View};
 use crate::case::World;
 use crate::rng::Rng;
 
-/// Free tables of random sizes within the limits, small ones often so that
-/// they fill up.
-pub fn free_world(rng: &mut Rng) -> World {
-    let [devices, binds, groups, members] = MOST.map(|most| match rng.below(10) {
+/// A number of records within the limit, a small one often.
+pub(super) fn records(rng: &mut Rng, most: usize) -> usize {
+    match rng.below(10) {
         0..=2 => most,
         3..=6 => rng.below(most.min(9) + 1),
         _ => rng.below(most + 1),
-    });
+    }
+}
+
+/// Free tables of random sizes within the limits, small ones often so that
+/// they fill up.
+pub fn free_world(rng: &mut Rng) -> World {
+    let [devices, binds, groups, members] = MOST.map(|most| records(rng, most));
     World {
         devices: vec![0xFF; DEVICE * devices.max(rng.below(5))],
         binds: vec![0xFF; BIND * binds],
@@ -29,7 +35,7 @@ fn fill(rng: &mut Rng) -> usize {
 
 /// Puts new records into random places of the table. `new` may fail to find a
 /// record, or find one whose key is taken.
-fn construct<const SIZE: usize>(
+pub(super) fn construct<const SIZE: usize>(
     rng: &mut Rng,
     table: &mut [u8],
     key: usize,
@@ -59,19 +65,40 @@ fn construct<const SIZE: usize>(
     }
 }
 
+/// A device's address: few, so that they meet, or enough for a full table.
+pub(super) fn device_address(rng: &mut Rng, wide: bool) -> u16 {
+    if wide {
+        1 + rng.word() % 90
+    } else {
+        some_address(rng)
+    }
+}
+
+fn device(address: u16, rights: bool, units: UnitSet) -> [u8; DEVICE] {
+    let mut record = [0; DEVICE];
+    record[..2].copy_from_slice(&address.to_be_bytes());
+    record[2] = u8::from(rights);
+    record[UNITS..].copy_from_slice(&units);
+    record
+}
+
 /// Full tables with every member in one group and every bind from one source,
 /// so that the list and the reply become as long as they can.
 pub fn crowded_world(rng: &mut Rng) -> World {
     let mut world = World::default();
-    for address in 1..=MOST[0] as u8 {
-        world.devices.extend([0, address, 1, 9]);
+    // Ten units for each device, unit 0 first, with gaps of one width.
+    let step = rng.weighted(&[(10, 1), (5, 8), (5, 9), (5, 28)]);
+    let numbers = [0, 1, 2, 3, 4, 5, 6, 7, 8, 9].map(|at| at * step);
+    for address in 1..=MOST[0] as u16 {
+        let device = device(address, true, set_of(numbers));
+        world.devices.extend(device);
     }
     for address in 1..=MOST[2] as u8 {
         world.groups.extend([0, address, 13]);
         world.groups.extend(rng.octets(13));
     }
     let mut units: Vec<_> = (0..640)
-        .map(|unit| [0, 1 + (unit / 10) as u8, (unit % 10) as u8])
+        .map(|at| [0, 1 + (at / 10) as u8, numbers[at % 10]])
         .collect();
     for at in (1..units.len()).rev() {
         units.swap(at, rng.below(at + 1));
@@ -102,14 +129,8 @@ pub fn constructed_world(rng: &mut Rng) -> World {
     // list and the reply become as long as they can.
     let crowded = rng.percent(20);
     construct(rng, &mut world.devices, 2, |rng| {
-        let address = if wide {
-            1 + rng.word() % 90
-        } else {
-            some_address(rng)
-        };
-        let [a1, a2] = address.to_be_bytes();
-        let highest = rng.weighted(&[(50, 2), (20, 0), (10, 1), (10, 254), (10, 9)]);
-        Some([a1, a2, u8::from(rng.percent(70)), highest])
+        let address = device_address(rng, wide);
+        Some(device(address, rng.percent(70), some_set(rng)))
     });
     construct(rng, &mut world.groups, 2, |rng| {
         let mut record = [0; GROUP];
@@ -161,7 +182,7 @@ fn bind_holds(view: &View, bind: &[u8; BIND]) -> bool {
             || view
                 .devices
                 .iter()
-                .any(|record| word(record, 0) == device && unit <= record[3])
+                .any(|record| word(record, 0) == device && has(&record[UNITS..], unit))
     };
     let destination = word(bind, 5);
     let there = if destination >> 15 == 1 {

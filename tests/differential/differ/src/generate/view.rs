@@ -1,6 +1,7 @@
 //! What stands in the tables, to aim calls at: units, groups, binds and members that are there, or only just are not.
 
-use super::records::{used, word, BIND, DEVICE, GROUP, MEMBER};
+use super::records::{used, word, BIND, DEVICE, GROUP, MEMBER, UNITS};
+use super::units::{near, some_unit};
 use crate::case::World;
 use crate::rng::Rng;
 
@@ -24,18 +25,10 @@ impl View {
         }
     }
 
-    /// A unit that exists, the highest ones often; D'0:U'0 if there is none.
+    /// A unit that exists; D'0:U'0 if there is none.
     pub(super) fn unit(&self, rng: &mut Rng) -> (u16, u8) {
         match rng.pick(&self.devices) {
-            Some(device) if !rng.percent(8) => {
-                let highest = device[3];
-                let unit = match rng.below(3) {
-                    0 => highest,
-                    1 => up_to(rng, highest.min(2)),
-                    _ => up_to(rng, highest),
-                };
-                (word(&device, 0), unit)
-            }
+            Some(device) if !rng.percent(8) => (word(&device, 0), some_unit(rng, &device[UNITS..])),
             _ => (0, 0),
         }
     }
@@ -44,11 +37,8 @@ impl View {
     pub(super) fn perhaps_unit(&self, rng: &mut Rng) -> (u16, u8) {
         let (device, unit) = self.unit(rng);
         match rng.below(100) {
-            0..=79 => (device, unit),
-            80..=85 => match rng.pick(&self.devices) {
-                Some(device) => (word(&device, 0), device[3].wrapping_add(1)),
-                None => (0, 1),
-            },
+            0..=75 => (device, unit),
+            76..=85 => (device, near(rng, unit)),
             86..=88 => (0, rng.octet() % 3),
             89..=93 => (some_address(rng), unit),
             94..=95 => (0x7FFF, 0xFF),
@@ -70,11 +60,11 @@ impl View {
                     .copied()
                     .collect();
                 match rng.pick(&with_rights) {
-                    Some(device) => (word(&device, 0), up_to(rng, device[3])),
+                    Some(device) => (word(&device, 0), some_unit(rng, &device[UNITS..])),
                     None => (0, 0),
                 }
             }
-            70..=94 => self.unit(rng),
+            70..=92 => self.unit(rng),
             _ => self.perhaps_unit(rng),
         }
     }
@@ -149,11 +139,6 @@ impl View {
             }
         }
     }
-}
-
-/// A unit from 0 to the highest.
-fn up_to(rng: &mut Rng, highest: u8) -> u8 {
-    rng.octet() % highest.saturating_add(1)
 }
 
 pub fn some_address(rng: &mut Rng) -> u16 {

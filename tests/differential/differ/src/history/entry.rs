@@ -1,7 +1,7 @@
 //! One call and its answer, and what they add, create, withdraw, delete or release.
 
 use crate::case::{hexadecimal, Answer, Call};
-use crate::generate::word;
+use crate::generate::{word, UnitSet};
 use std::fmt;
 
 pub type Bind = [u8; 8];
@@ -17,7 +17,7 @@ pub enum Entry {
     },
     Admit {
         address: u16,
-        highest: u8,
+        units: UnitSet,
         outcome: u8,
     },
     Release {
@@ -44,14 +44,9 @@ impl Entry {
                     payload,
                 })
             }
-            (
-                &Call::Admit {
-                    address, highest, ..
-                },
-                _,
-            ) => Some(Entry::Admit {
+            (&Call::Admit { address, units, .. }, _) => Some(Entry::Admit {
                 address,
-                highest,
+                units,
                 outcome,
             }),
             (&Call::Release { address }, _) => Some(Entry::Release { address, outcome }),
@@ -71,14 +66,14 @@ impl Entry {
         }
     }
 
-    /// A device that was admitted, with its highest unit.
-    pub(super) fn admitted(&self) -> Option<(u16, u8)> {
+    /// A device that was admitted, with its units.
+    pub(super) fn admitted(&self) -> Option<(u16, UnitSet)> {
         match *self {
             Entry::Admit {
                 address,
-                highest,
+                units,
                 outcome: 0,
-            } => Some((address, highest)),
+            } => Some((address, units)),
             _ => None,
         }
     }
@@ -179,11 +174,12 @@ impl fmt::Display for Entry {
             ),
             Entry::Admit {
                 address,
-                highest,
+                units,
                 outcome,
             } => writeln!(
                 to,
-                "  admit {address:04X} highest {highest:02X} -> {outcome}"
+                "  admit {address:04X} units {} -> {outcome}",
+                hexadecimal(units)
             ),
             Entry::Release { address, outcome } => {
                 writeln!(to, "  release {address:04X} -> {outcome}")

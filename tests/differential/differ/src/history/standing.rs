@@ -2,13 +2,13 @@
 
 use super::entry::{Bind, Member};
 use super::History;
-use crate::generate::word;
+use crate::generate::{has, word, UnitSet};
 
 pub type Unit = (u16, u8);
 
 /// What the history says at one moment, worked out once.
 pub struct Standing<'a> {
-    pub devices: Vec<(u16, u8)>,
+    pub devices: Vec<(u16, UnitSet)>,
     pub binds: Vec<Bind>,
     pub members: Vec<Member>,
     pub groups: Vec<(u16, &'a [u8])>,
@@ -29,7 +29,7 @@ impl Standing<'_> {
             || self
                 .devices
                 .iter()
-                .any(|&(address, highest)| address == device && unit <= highest)
+                .any(|(address, units)| *address == device && has(units, unit))
     }
 
     /// A group's members, each once, by rising device and unit.
