@@ -1,6 +1,6 @@
 -- Laws of the outcome: one check after the other, and with outcome 0 the new table is the old one carried over.
 use Rattle.words.specs.Basics.{_≡_, refl, sym, ap, _∙_, Bool, true, false, cond, not, List, ℕ, _*_, _%_, _≤_, arith, eqb, length, eq-eqb, ne-eqb, eqb-true}
-use Rattle.words.specs.Basics.{not-true, not-false, false≢true}
+use Rattle.words.specs.Basics.{not-true, not-false}
 use Rattle.words.specs.Outcomes.{numberOf}
 use Rattle.rules.specs.Types.{Outcome, Done, Unsound, NoRoom}
 use Rattle.rules.specs.Lists.{ask}

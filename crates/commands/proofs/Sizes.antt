@@ -1,5 +1,5 @@
 -- What a handler may count on, from soundness: whole records, tables within their limits, and groups whose fields are in range.
-use Rattle.words.specs.Basics.{_≡_, sym, ap, _∙_, true, List, ℕ, _+_, _*_, _%_, _≤_, arith, length, leb-true}
+use Rattle.words.specs.Basics.{_≡_, ap, _∙_, true, List, ℕ, _+_, _%_, _≤_, arith, length, leb-true}
 use Rattle.words.specs.Names.{headerLength, longest}
 use Rattle.rules.specs.Types.{Command, Kind, Binds, Groups, Members}
 use Rattle.rules.specs.Lists.{all}

@@ -1,5 +1,6 @@
 -- Where the octets of a device's record stand: a unit's octet in a set that begins somewhere, and the units behind four octets.
-use Rattle.words.specs.Basics.{_≡_, _∙_, List, [], _∷_, append-nil, ℕ, _+_, _/_, _%_, _<_, _≤_, arith, eqb, length, take, drop, replicate, set, getD-drop, sets, sets-eq}
+use Rattle.words.specs.Basics.{_≡_, _∙_, List, _∷_, append-nil, ℕ, _+_, _/_, _%_, _<_, _≤_, arith, eqb, length, take, drop, replicate, set, getD-drop}
+use Rattle.words.specs.Basics.{sets, sets-eq}
 use Rattle.rules.specs.Octets.{octet, bit, octets}
 use Rattle.rules.specs.Types.{DeviceAddress, Devices}
 use Rattle.rules.specs.Layout.{size, unitsLength, inSet, deviceUnits, deviceRecord}

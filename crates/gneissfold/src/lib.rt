@@ -47,7 +47,8 @@ pub extern "C" fn gneissfold_admit(
     units: &[u8; 32],
 ) -> u8
     ensures { λ r. ⌜ hostTold r (lent (now (devices .exit)) (now (binds .entry)) (now (groups .entry)) (now (members .entry)))
-        ≡ ofHost (admit (lent (now (devices .entry)) (now (binds .entry)) (now (groups .entry)) (now (members .entry))) (device address) rights (now (units .entry))) ⌝ }
+        ≡ ofHost (admit (lent (now (devices .entry)) (now (binds .entry)) (now (groups .entry)) (now (members .entry)))
+        (device address) rights (now (units .entry))) ⌝ }
 {
     let outcome = hub::admit(
         devices,

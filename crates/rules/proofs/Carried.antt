@@ -1,21 +1,21 @@
 -- Old tables carried over: the same units exist in the new table, it is sound where the old one was, and it is nine times as long.
-use Rattle.words.specs.Basics.{_≡_, refl, sym, _∙_, Bool, true, false, cond, not, _&&_, _||_, List, [], _∷_, map, ℕ, _+_, _*_, _/_, _%_, _<_, _≤_, arith, eqb, leb}
-use Rattle.words.specs.Basics.{length, take, drop, replicate, length-map, leb-true, leb-false, le-leb, lt-leb, eqb-true, eq-eqb}
+use Rattle.words.specs.Basics.{_≡_, refl, sym, ap, _∙_, Bool, true, false, cond, not, _&&_, _||_, List, [], _∷_, map, ℕ, _*_, _%_, _<_, _≤_, arith, leb}
+use Rattle.words.specs.Basics.{length, take, replicate, length-map, leb-true, leb-false, le-leb, lt-leb, eqb-true, eq-eqb}
 use Rattle.words.specs.Names.{device}
 use Rattle.rules.specs.Types.{DeviceAddress, Devices}
-use Rattle.rules.specs.Lists.{any, all, keep, _&_}
+use Rattle.rules.specs.Lists.{count, any, all, keep, _&_}
 use Rattle.rules.specs.Octets.{octet, word, octets, octetString}
-use Rattle.rules.specs.Tables.{Rec, records, bytes, free?, used, matches, addressed}
+use Rattle.rules.specs.Tables.{Rec, records, free?, used, matches, addressed}
 use Rattle.rules.specs.Layout.{size, most, key, inSet, upTo, deviceUnits, deviceRecord}
 use Rattle.rules.specs.Frame.{table}
 use Rattle.rules.specs.Exists.{hasUnit, unitExists}
-use Rattle.rules.specs.Sound.{wholeRecords, addressFits, deviceInRange, deviceFits, fits, distinct, soundTable}
+use Rattle.rules.specs.Sound.{wholeRecords, deviceInRange, deviceFits, fits, distinct, soundTable}
 use Rattle.rules.specs.Carry.{oldSize, oldHighest, oldFits, oldSound, oldHasUnit, oldUnitExists, carried, carriedTable}
-use Rattle.rules.proofs.Lists.{and-parts, and-true, split, join}
+use Rattle.rules.proofs.Lists.{some?, none?, and-parts, and-true, split, join, any-count, all-count}
 use Rattle.rules.proofs.Records.{Each, length-bytes, length-records, records-bytes}
 use Rattle.rules.proofs.Words.{shaped, shaped-length, shaped-octets, octet-small, word-below, addressed-word, begins-word}
 use Rattle.rules.proofs.UnitSets.{shaped-up-to, in-up-to}
-use Rattle.rules.proofs.Changes.{shaped-records, each-shaped}
+use Rattle.rules.proofs.Changes.{shaped-records}
 use Rattle.rules.proofs.Stored.{Stored, device-stored, device-address}
 
 -- unit 255 is not in the set iff the highest is at most 254
@@ -34,7 +34,8 @@ as-device r = deviceRecord (device (word 0 r)) (octet 2 r) (upTo (octet 3 r))
 
 device-of : (r : Rec) → shaped oldSize r ≡ true → Stored (size Devices) (as-device r)
 device-of r s =
-    device-stored (device (word 0 r)) (octet 2 r) (upTo (octet 3 r)) (word-below oldSize 0 r s) (octet-small r 2 (shaped-octets oldSize r s)) (shaped-up-to (octet 3 r))
+    device-stored (device (word 0 r)) (octet 2 r) (upTo (octet 3 r)) (word-below oldSize 0 r s) (octet-small r 2 (shaped-octets oldSize r s))
+    (shaped-up-to (octet 3 r))
 
 -- a new record has its octets, and is free iff the old one is
 shaped-carried : (r : Rec) → shaped oldSize r ≡ true → shaped (size Devices) (carried r) ≡ true
@@ -95,29 +96,26 @@ begins-carried r x s f t g =
 -- All records: a test of new ones that comes out as one of the old ones does
 
 module _ (p q : Rec → Bool) (same : (r : Rec) → shaped oldSize r ≡ true → free? r ≡ false → p (carried r) ≡ q r) where
-  any-carried : (rs : List Rec) → all (shaped oldSize) rs ≡ true → any p (used (map carried rs)) ≡ any q (used rs)
-  unfolding any all used keep
-  any-carried [] h = refl
-  any-carried (r ∷ rs) h =
+  count-carried : (rs : List Rec) → all (shaped oldSize) rs ≡ true → count p (used (map carried rs)) ≡ count q (used rs)
+  unfolding count all used keep
+  count-carried [] h = refl
+  count-carried (r ∷ rs) h =
       let a = and-parts (shaped oldSize r) (all (shaped oldSize) rs) h in
-      rw (free-carried r a.0) (step (free? r) refl (any-carried rs a.1))
+      rw (free-carried r a.0) (step (free? r) refl a.0 (count-carried rs a.1))
     where
-      step : (b : Bool) → free? r ≡ b → any p (used (map carried rs)) ≡ any q (used rs)
-          → any p (cond (not b) (carried r ∷ used (map carried rs)) (used (map carried rs))) ≡ any q (cond (not b) (r ∷ used rs) (used rs))
-      step true f ih = ih
-      step false f ih = rw (same r (and-parts (shaped oldSize r) (all (shaped oldSize) rs) h .0) f, ih)
+      step : (b : Bool) → free? r ≡ b → shaped oldSize r ≡ true → count p (used (map carried rs)) ≡ count q (used rs)
+          → count p (cond (not b) (carried r ∷ used (map carried rs)) (used (map carried rs))) ≡ count q (cond (not b) (r ∷ used rs) (used rs))
+      step true f s ih = ih
+      step false f s ih = rw (same r s f, ih)
 
-  all-carried : (rs : List Rec) → all (shaped oldSize) rs ≡ true → all p (used (map carried rs)) ≡ all q (used rs)
-  unfolding all used keep
-  all-carried [] h = refl
-  all-carried (r ∷ rs) h =
-      let a = and-parts (shaped oldSize r) (all (shaped oldSize) rs) h in
-      rw (free-carried r a.0) (step (free? r) refl (all-carried rs a.1))
-    where
-      step : (b : Bool) → free? r ≡ b → all p (used (map carried rs)) ≡ all q (used rs)
-          → all p (cond (not b) (carried r ∷ used (map carried rs)) (used (map carried rs))) ≡ all q (cond (not b) (r ∷ used rs) (used rs))
-      step true f ih = ih
-      step false f ih = rw (same r (and-parts (shaped oldSize r) (all (shaped oldSize) rs) h .0) f, ih)
+  any-carried : (rs : List Rec) → all (shaped oldSize) rs ≡ true → any p (used (map carried rs)) ≡ any q (used rs)
+  any-carried rs h = any-count p _ ∙ ap some? (count-carried rs h) ∙ sym (any-count q _)
+
+all-fit : (rs : List Rec) → all (shaped oldSize) rs ≡ true → all deviceFits (used (map carried rs)) ≡ all oldFits (used rs)
+all-fit rs h =
+    all-count deviceFits _
+    ∙ ap none? (count-carried (λ r. not (deviceFits r)) (λ r. not (oldFits r)) (λ r s f. ap not (fits-carried r s f)) rs h)
+    ∙ sym (all-count oldFits _)
 
 distinct-carried : (rs : List Rec) → all (shaped oldSize) rs ≡ true → distinct (key Devices) (map carried rs) ≡ distinct (key Devices) rs
 unfolding distinct all
@@ -179,7 +177,7 @@ module _ (old : List ℕ) (o : octetString old ≡ true) where
       let b = split (a .0) in
       let w = old-whole old h in
       let n : length (carriedTable old) ≡ 9 * length old = length-table old (w .0) in
-      join (join
-      (join (eq-eqb (length (carriedTable old) % size Devices) 0 (omega arith)) (le-leb (length (carriedTable old)) (most Devices * size Devices) (omega arith)))
-      (rw (records-carried old, all-carried deviceFits oldFits fits-carried (records oldSize old) old-shaped) (b .1)))
+      let whole = eq-eqb (length (carriedTable old) % size Devices) 0 (omega arith) in
+      let few = le-leb (length (carriedTable old)) (most Devices * size Devices) (omega arith) in
+      join (join (join whole few) (rw (records-carried old, all-fit (records oldSize old) old-shaped) (b .1)))
       (rw (records-carried old, distinct-carried (records oldSize old) old-shaped) (a .1))

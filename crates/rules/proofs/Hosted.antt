@@ -40,11 +40,13 @@ module _ (L : Lent) (d : DeviceAddress) (a : ℕ) (us : List ℕ) where
   unfolding admitting entries
   told-admit = told-also Devices says-added told-nothing
 
-  ok-admit : shaped unitsLength us ≡ true → deviceInRange d a us ≡ true → not (admitted (tables L Devices) d) ≡ true → someFree (tables L Devices) ≡ true → Ok L (admitting d a us)
+  ok-admit : shaped unitsLength us ≡ true → deviceInRange d a us ≡ true → not (admitted (tables L Devices) d) ≡ true → someFree (tables L Devices) ≡ true
+      → Ok L (admitting d a us)
   unfolding admitting admitted addressed fits spares nothing also deviceRecord octets
   ok-admit s h n f =
       let i = device-fields d a us h in
-      let new = order-store Devices L (deviceRecord d a us) (octets (d .0)) refl f (device-stored d a us (omega arith) (omega arith) s) (device-meets d a us h) (not-true _ n) in
+      let fit = device-stored d a us (omega arith) (omega arith) s in
+      let new = order-store Devices L (deviceRecord d a us) (octets (d .0)) refl f fit (device-meets d a us h) (not-true _ n) in
       ok-adding L _ (orders-only Devices L _ new) (λ r. refl) (λ r. refl)
 
   pub hosted-admit : shaped unitsLength us ≡ true → Hosted L (admitting d a us) (entries (admits d a us)) (admit L d a us .outcome)

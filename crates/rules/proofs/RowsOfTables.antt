@@ -2,8 +2,8 @@
 use Rattle.words.specs.Basics.{List, [], _∷_, _++_, map, ℕ, _+_, replicate}
 use Rattle.rules.specs.Frame.{Lent}
 use Rattle.rules.specs.Calls.{Answer}
-use Rattle.rules.proofs.Samples.{Row, row, run, lending, filled, units, only-zero, zero-to-one, zero-to-two, zero-to-254, known}
-use Rattle.rules.proofs.Samples.{device-table, D3, D4, D5, named, devices, groups, members, holding, three-one, curtains, request, Sent, told, sent, reply, goes}
+use Rattle.rules.proofs.Samples.{Row, row, run, lending, filled, units, only-zero, zero-to-one, zero-to-two, zero-to-254, known, device-table}
+use Rattle.rules.proofs.Samples.{D3, D4, D5, named, devices, groups, members, holding, three-one, curtains, request, Sent, told, sent, reply, goes}
 
 -- the house with one more record, or with other octets, in one table
 

@@ -5,7 +5,7 @@ use Rattle.rules.specs.Frame.{Lent}
 use Rattle.rules.specs.Calls.{Answer}
 use Rattle.rules.specs.Carry.{CarryAnswer, carryAnswer, carryOver}
 use Rattle.rules.proofs.Samples.{Row, row, run, lending, filled, units, only-zero, zero-to-one, zero-to-254, known, device-table, D3, named, holding}
-use Rattle.rules.proofs.Samples.{three-one, to-binds, curtains, bindManagement, groupManagement, letter, request, Sent, sent, unchanged, goes, grants, code}
+use Rattle.rules.proofs.Samples.{three-one, curtains, bindManagement, groupManagement, letter, request, Sent, sent, unchanged, goes, grants, code}
 
 -- A house with gaps: device 3, with rights, has units 0 to 2; device 6, a valance of three motors, has units 0, 1, 2 and 9; device 7 has 0, 7, 8, 16, 248, 254
 
@@ -99,7 +99,8 @@ carried-over =
     ∷ carries 0x12_34_00_FD (known 0x1234 0 (replicate 31 0xFF ++ 0x3F ∷ []))
     ∷ carries 0x7F_FE_01_FE (known 0x7FFE 1 zero-to-254)
     -- record by record, and free ones free; no record; 64 free ones
-    ∷ into (filled 4 [] ++ run 4 0x00_03_01_02 ++ filled 4 [] ++ run 4 0x00_01_00_01) 144 0 (device-table 1 [] ++ D3 ++ device-table 1 [] ++ known 1 0 zero-to-one)
+    ∷ into (filled 4 [] ++ run 4 0x00_03_01_02 ++ filled 4 [] ++ run 4 0x00_01_00_01) 144
+    0 (device-table 1 [] ++ D3 ++ device-table 1 [] ++ known 1 0 zero-to-one)
     ∷ into [] 0 0 []
     ∷ into (filled 256 []) 2304 0 (device-table 64 [])
     ∷ []

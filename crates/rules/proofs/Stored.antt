@@ -1,6 +1,6 @@
 -- The records that calls store: each has its table's size, is made of octets, and is no free record.
-use Rattle.words.specs.Basics.{_≡_, refl, Bool, true, false, _&&_, List, [], _∷_, ℕ, suc, _+_, _-_, _/_, _%_, _<_, _≤_, arith, eqb, leb, length, drop, replicate}
-use Rattle.words.specs.Basics.{length-append, length-replicate, drop-at, eq-eqb, ne-eqb, leb-true, le-leb}
+use Rattle.words.specs.Basics.{_≡_, refl, Bool, true, false, _&&_, List, [], _∷_, ℕ, suc, _+_, _-_, _/_, _%_, _<_, _≤_, arith, eqb, leb, length, drop}
+use Rattle.words.specs.Basics.{replicate, length-append, length-replicate, drop-at, eq-eqb, ne-eqb, leb-true, le-leb}
 use Rattle.words.specs.Names.{device}
 use Rattle.rules.specs.Types.{DeviceAddress, GroupAddress, Devices, Binds, Groups, Members}
 use Rattle.rules.specs.Lists.{all}

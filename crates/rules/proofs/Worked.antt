@@ -7,8 +7,8 @@ use Rattle.rules.specs.Frame.{Lent}
 use Rattle.rules.specs.Calls.{message}
 use Rattle.rules.specs.History.{Call, sends, admits, releases, said, left, after, history, granted, stand, standing, entries}
 use Rattle.rules.proofs.Whole.{whole}
-use Rattle.rules.proofs.Samples.{run, lending, filled, zero-to-one, zero-to-two, device-table, D3, D4, D5, named, holding, three-one, concentrator, curtains}
-use Rattle.rules.proofs.Samples.{bindManagement, groupManagement, letter, request, reply}
+use Rattle.rules.proofs.Samples.{run, lending, filled, zero-to-one, zero-to-two, device-table, D3, D4, D5, named, holding, three-one, concentrator}
+use Rattle.rules.proofs.Samples.{curtains, bindManagement, groupManagement, letter, request, reply}
 
 -- what is known at one place of a run: the tables, and the binds and members that stand by history
 pub record Place : Type 0 where

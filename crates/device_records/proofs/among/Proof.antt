@@ -14,4 +14,5 @@ returns-3 : tie.Need-returns-3
 returns-3 c = let a = c .before .before .before .args in among-all (a .top) (a .i) (omega arith)
 
 pub among-spec : {M : Type 1} → statement M
-among-spec = tie.close (tie.spec (λ c κs. search needs) (λ c. search needs) (λ c. search needs) returns (λ c. search needs) (λ c. search needs) returns-2 returns-3)
+among-spec = tie.close
+    (tie.spec (λ c κs. search needs) (λ c. search needs) (λ c. search needs) returns (λ c. search needs) (λ c. search needs) returns-2 returns-3)

@@ -14,7 +14,12 @@ unfolding hasUnit addressed
 returns c =
     let m = c .before in
     let a = m .before .before .before .before .args in
-    rw (c .in-set .ensures, m .matches-at .ensures, m .before .before .address-octets .ensures, ← unit-in-record (a .at) (a .unit) (a .devices .now) (omega arith))
+    rw (
+      c .in-set .ensures,
+      m .matches-at .ensures,
+      m .before .before .address-octets .ensures,
+      ← unit-in-record (a .at) (a .unit) (a .devices .now) (omega arith),
+    )
     (passes-both (addressed (a .device .0)) (λ r. inSet (a .unit) (deviceUnits r)) (take (size Devices) (drop (a .at) (a .devices .now))))
 
 pub unit-at-spec : {M : Type 1} → statement M
