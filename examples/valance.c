@@ -66,6 +66,8 @@ int main(void)
 
     outcome = gneissfold_carry_over(old_devices, sizeof old_devices, devices, sizeof devices);
     printf("carry the devices over: outcome %d\n", outcome);
+    if (outcome != GNEISSFOLD_DONE)
+        return 1;
 
     put(units, 1);
     put(units, 2);

@@ -7,7 +7,8 @@
  *
  * What the caller owes, and no call can test:
  *   - no pointer is NULL, also where the length that follows it is 0;
- *   - each pointer stands before as many elements as the length that follows it says;
+ *   - each pointer stands before as many elements as the length that follows it says; where no length follows, `units` before 32 octets,
+ *     `fields` before 12 numbers, `count` and `length` before one;
  *   - what a call may write overlaps nothing else that is lent to the same call.
  * Nothing else is owed: every call answers on any octets and any lengths, and its whole answer is proved (crates/gneissfold/src/lib.rt).
  *
@@ -143,7 +144,8 @@ uint8_t gneissfold_message(
  * Admits a device, with its rights (1: its bind and group commands are served, 0: refused with code 0x01) and its units.
  *
  * Lent until the call returns: the devices, to be changed, and the other three tables and `units`, to be read. `units` is a set of units,
- * always GNEISSFOLD_UNITS_LENGTH octets. It was the number of the highest unit before: a 0 written out there still compiles, as NULL.
+ * always GNEISSFOLD_UNITS_LENGTH octets. It was the number of the highest unit before, h: callers are compiled anew (a 0 written out there
+ * still compiles, as NULL), and `for (unsigned u = 0; u <= h; u++) units[u / 8] |= 1 << u % 8;` makes the set of units 0 to h.
  *
  *   0   the device's record stands in the first free place
  *   16, 20, 21, 22, in this order: refused; nothing is written

@@ -50,7 +50,8 @@ pub fn recipients(list: &[u8], count: usize) -> impl Iterator<Item = (u16, u8)> 
         .map(|to| (u16::from_be_bytes([to[0], to[1]]), to[2]))
 }
 
-/// Admits a device with its rights (0 or 1) and its units. Only [`Outcome::Done`] changes the devices.
+/// Admits a device with its rights (0 or 1) and its units; [`Units::up_to`] is the set of all up to a highest one. Only [`Outcome::Done`] changes the
+/// devices.
 pub fn admit(
     devices: &mut [u8],
     binds: &[u8],

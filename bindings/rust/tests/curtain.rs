@@ -1,4 +1,4 @@
-//! Every call once, over the curtain of the example, and a refusal of each.
+//! Every call on tables and messages once, over the curtain of the example, and a refusal of each.
 use gneissfold::{
     code, copy, read, recipients, Outcome, Tables, Units, HEADER_LENGTH, LIST_LENGTH, LONGEST,
 };

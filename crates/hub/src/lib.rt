@@ -1,4 +1,4 @@
-// The public calls of the bind and group part (document 01), and here the one for a message: read once, decided by all that is lent; then its
+// The public calls of the bind and group part (documents 01 and 02), and here the one for a message: read once, decided by all that is lent; then its
 // command is served, or its recipients are listed.
 pub use carrying::carry_over;
 pub use copying::copy;

@@ -39,7 +39,7 @@ answerText o reply list =
     firstLine (numberOf o) (countOf o)
     ++ cond (eqb (numberOf o) 0) (hexLine (take (lengthOf o) reply)) (recipientLines (countOf o) list)
 
--- "Input under 1,664 octets prints `short input` alone"
+-- "prints `short input` alone" (document 01, Rows to try): for which input, `links_text` says
 abbrev pub shortText : List ℕ
 shortText = line (ascii "short input")
 

@@ -81,7 +81,7 @@ pub fn write_answer(outcome: Outcome, reply: &[u8], list: &[u8], text: &mut [u8]
     }
 }
 
-// What `links` prints for input under 1,664 octets. Returns the text's length.
+// What `links` prints for input that is too short. Returns the text's length.
 pub fn write_short(text: &mut [u8]) -> usize
     requires { ⌜ 12 ≤ length (now text) ⌝ }
     ensures { λ r. ⌜ Printed shortText (now (text .entry)) r (now (text .exit)) ⌝ }

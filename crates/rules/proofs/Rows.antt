@@ -141,6 +141,7 @@ pub record AllRows : Type 0 where
   pub releases : AsTold calls.releaseOf calls.releases
   pub units-with-gaps : AsTold answerTo units.units-with-gaps
   pub gaps-in-commands : AsTold answerTo units.gaps-in-commands
+  pub existing-by-history : AsTold units.existsAfter units.existing-by-history
   pub carried-over : AsTold units.carryOf units.carried-over
   pub not-carried : AsTold units.carryOf units.not-carried
 
@@ -182,6 +183,7 @@ as-told = record {
   releases = refl;
   units-with-gaps = refl;
   gaps-in-commands = refl;
+  existing-by-history = refl;
   carried-over = refl;
   not-carried = refl;
 }

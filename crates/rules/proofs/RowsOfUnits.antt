@@ -1,9 +1,11 @@
 -- Rows: units with gaps in their numbers, and old tables carried over (document 02, request 2).
-use Rattle.words.specs.Basics.{List, [], _∷_, _++_, map, ℕ, _+_, _*_, replicate}
+use Rattle.words.specs.Basics.{Bool, true, false, List, [], _∷_, _++_, map, ℕ, _*_, _/_, _%_, replicate}
+use Rattle.words.specs.Names.{device}
 use Rattle.words.proofs.Apart.{readBack}
 use Rattle.rules.specs.Frame.{Lent}
 use Rattle.rules.specs.Calls.{Answer}
 use Rattle.rules.specs.Carry.{CarryAnswer, carryAnswer, carryOver}
+use Rattle.rules.specs.History.{Call, admits, releases, history, existing}
 use Rattle.rules.proofs.Samples.{Row, row, run, lending, filled, units, only-zero, zero-to-one, zero-to-254, known, device-table, D3, named, holding}
 use Rattle.rules.proofs.Samples.{three-one, curtains, bindManagement, groupManagement, letter, request, Sent, sent, unchanged, goes, grants, code}
 
@@ -62,6 +64,35 @@ gaps-in-commands =
 
     member-nine : List ℕ
     member-nine = run 5 0x00_01_00_06_09
+
+-- Which units exist by history, after these calls from free tables: the latest call stands first
+
+pub record After : Type 0 where
+  pub calls : List Call
+  pub unit : ℕ
+
+abbrev after : List Call → ℕ → After
+after cs u = record { calls = cs; unit = u }
+
+abbrev pub existsAfter : After → Bool
+existsAfter x = existing (history free-tables (x .calls)) (device (x .unit / 256)) (x .unit % 256)
+  where
+    free-tables : Lent
+    free-tables = holding (device-table 2 []) (filled 8 []) (filled 16 []) (filled 5 [])
+
+abbrev taught : List Call
+taught = admits (device 6) 0 valance ∷ []
+
+abbrev pub existing-by-history : List (Row After Bool)
+existing-by-history =
+    map (λ u. row (after taught u) true) (0x00_06_00 ∷ 0x00_06_01 ∷ 0x00_06_02 ∷ 0x00_06_09 ∷ 0x00_00_00 ∷ [])
+    ++ map (λ u. row (after taught u) false) (0x00_06_03 ∷ 0x00_06_08 ∷ 0x00_06_0A ∷ 0x00_06_FF ∷ 0x00_07_00 ∷ 0x00_00_01 ∷ [])
+    -- released; released and admitted with another set; refused, since unit 0 is not set
+    ++ row (after (releases (device 6) ∷ taught) 0x00_06_09) false
+    ∷ row (after (admits (device 6) 0 zero-to-one ∷ releases (device 6) ∷ taught) 0x00_06_01) true
+    ∷ row (after (admits (device 6) 0 zero-to-one ∷ releases (device 6) ∷ taught) 0x00_06_09) false
+    ∷ row (after (admits (device 6) 0 (units (0x06 ∷ 0x02 ∷ [])) ∷ []) 0x00_06_09) false
+    ∷ []
 
 -- Old tables carried over
 
