@@ -6,7 +6,7 @@ use Rattle.rules.specs.Types.{Devices}
 use Rattle.rules.specs.Octets.{octet, word, over}
 use Rattle.rules.specs.Tables.{Rec, records, bytes, free?}
 use Rattle.rules.specs.Layout.{size, upTo, deviceRecord}
-use Rattle.rules.specs.Carry.{oldSize, carried, carriedTable}
+use Rattle.rules.specs.Carry.{oldSize, times, carried, carriedTable}
 use Rattle.rules.proofs.Records.{octet-at, records-at, records-end}
 use Rattle.rules.proofs.Carried.{length-carried, length-table}
 use Rattle.octets.proofs.Runs.{sets-over, sets-behind}
@@ -37,12 +37,12 @@ module _ (at : ℕ) (old : List ℕ) where
 
 pub record Carrying (old new₀ new : List ℕ) (at to : ℕ) : Type 0 where
   pub within : at ≤ length old
-  pub place : to ≡ 9 * at
+  pub place : to ≡ times * at
   pub same : length new ≡ length new₀
-  pub room : length new₀ ≡ 9 * length old
+  pub room : length new₀ ≡ times * length old
   pub rest : sets new to (bytes (map carried (records oldSize (drop at old)))) ≡ sets new₀ 0 (carriedTable old)
 
-pub carrying-start : {old new : List ℕ} → length new ≡ 9 * length old → Carrying old new new 0 0
+pub carrying-start : {old new : List ℕ} → length new ≡ times * length old → Carrying old new new 0 0
 unfolding carriedTable
 carrying-start h = record { within = omega arith; place = omega arith; same = refl; room = h; rest = refl }
 

@@ -8,7 +8,7 @@ use words::Outcome;
 ghost use Rattle.words.specs.Basics.{_≡_, _+_, _*_, _%_, _≤_, length, take, drop};
 ghost use Rattle.rules.specs.Lists.{all};
 ghost use Rattle.rules.specs.Tables.{records, used};
-ghost use Rattle.rules.specs.Carry.{oldSize, oldFits, oldSound, carried, carriedTable, carryAnswer, carrying, carryOver};
+ghost use Rattle.rules.specs.Carry.{oldSize, oldFits, oldSound, carried, carriedTable, times, carryAnswer, carryOutcome, carryOver};
 ghost use Rattle.soundness.specs.Asking.{freeOr};
 
 // The octets of an old record, and where its rights and its highest unit stand.
@@ -20,8 +20,6 @@ const HIGHEST: usize = 3;
 
 // "nine times its length"
 const TIMES: usize = 9;
-
-const FREE: u8 = 0xFF;
 
 // Address, rights 0 or 1, highest unit 0 to 254.
 fn old_fits(rec: &[u8]) -> bool
@@ -75,7 +73,7 @@ fn carried(old: &[u8], at: usize) -> [u8; 36]
     ensures { λ r. ⌜ r ≡ carried (take oldSize (drop at (now (old .entry)))) ⌝ }
 {
     if records::free_at(old, OLD, at) {
-        return [FREE; DEVICE];
+        return [records::FREE; DEVICE];
     }
     let address = DeviceAddress(octets::word_at(old, at));
     let units = device_records::up_to(old[at + HIGHEST]);
@@ -84,7 +82,7 @@ fn carried(old: &[u8], at: usize) -> [u8; 36]
 
 // Every record of the old table, one after the other.
 fn carry(old: &[u8], new: &mut [u8])
-    requires { ⌜ (length (now old) % oldSize ≡ 0) × (length (now new) ≡ 9 * length (now old)) ⌝ }
+    requires { ⌜ (length (now old) % oldSize ≡ 0) × (length (now new) ≡ times * length (now old)) ⌝ }
     ensures { λ _. ⌜ now (new .exit) ≡ carriedTable (now (old .entry)) ⌝ }
 {
     let mut at = 0;
@@ -97,8 +95,8 @@ fn carry(old: &[u8], new: &mut [u8])
 }
 
 // "16 for an unsound old table, then 17 where the new one isn't nine times its length": it looks, and writes nothing.
-fn carrying(old: &[u8], new: &[u8]) -> Outcome
-    ensures { λ r. ⌜ r ≡ carrying (now (old .entry)) (now (new .entry)) ⌝ }
+fn carry_outcome(old: &[u8], new: &[u8]) -> Outcome
+    ensures { λ r. ⌜ r ≡ carryOutcome (now (old .entry)) (now (new .entry)) ⌝ }
 {
     if !old_sound(old) {
         return Outcome::Unsound;
@@ -113,7 +111,7 @@ fn carrying(old: &[u8], new: &[u8]) -> Outcome
 pub fn carry_over(old: &[u8], new: &mut [u8]) -> Outcome
     ensures { λ r. ⌜ carryAnswer r (now (new .exit)) ≡ carryOver (now (old .entry)) (now (new .entry)) ⌝ }
 {
-    let outcome = carrying(old, new);
+    let outcome = carry_outcome(old, new);
     if outcome.number() == 0 {
         carry(old, new);
     }

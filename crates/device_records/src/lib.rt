@@ -1,10 +1,10 @@
-// A device's record (document 02, request 2): address, rights, one octet 0, and its set of units. No other crate knows where a unit's bit stands.
+// A device's record (document 02, request 2): address, rights, one octet that is 0, and its set of units. No other crate knows where a unit's bit stands.
 use layouts::DEVICE;
 use words::DeviceAddress;
 ghost use Rattle.words.specs.Basics.{_≡_, _+_, _<_, _≤_, length, drop};
 ghost use Rattle.rules.specs.Layout.{unitsLength, inSet, among, lowBits, upTo, deviceRecord};
 
-// Where rights, the octet 0 and the units stand in a record.
+// Where rights, the octet that is 0 and the units stand in a record.
 pub const RIGHTS: usize = 2;
 
 pub const ZERO: usize = 3;

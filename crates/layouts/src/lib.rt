@@ -1,5 +1,5 @@
 // The records (document 01, Tables): how many octets a record of each table has, how many there may be, and its fields, read and built; those of a device
-// are `device_records`'s. No other crate knows the place of a field.
+// stand in `device_records`, those of an old device in `carrying`. No other crate knows the place of a field.
 mod binds;
 mod members;
 

@@ -11,7 +11,7 @@ pub enum Found {
 }
 
 // "A free record is all 0xFF."
-const FREE: u8 = 0xFF;
+pub const FREE: u8 = 0xFF;
 
 // Is the record at `at` free?
 pub fn free_at(table: &[u8], size: usize, at: usize) -> bool

@@ -1,17 +1,17 @@
--- Old tables carried over: the same units exist in the new table, it is sound where the old one was, and it is nine times as long.
-use Rattle.words.specs.Basics.{_≡_, refl, sym, ap, _∙_, Bool, true, false, cond, not, _&&_, _||_, List, [], _∷_, map, ℕ, _*_, _%_, _<_, _≤_, arith, leb}
+-- Old tables carried over: the same units exist in the new table, the same devices have rights, it is sound iff the old one was, and nine times as long.
+use Rattle.words.specs.Basics.{_≡_, refl, sym, ap, _∙_, Bool, true, false, cond, not, _&&_, _||_, List, [], _∷_, map, ℕ, _*_, _%_, _<_, _≤_, arith, eqb, leb}
 use Rattle.words.specs.Basics.{length, take, replicate, length-map, leb-true, leb-false, le-leb, lt-leb, eqb-true, eq-eqb}
-use Rattle.words.specs.Names.{device}
 use Rattle.rules.specs.Types.{DeviceAddress, Devices}
 use Rattle.rules.specs.Lists.{count, any, all, keep, _&_}
-use Rattle.rules.specs.Octets.{octet, word, octets, octetString}
+use Rattle.rules.specs.Octets.{word, octets, octetString}
 use Rattle.rules.specs.Tables.{Rec, records, free?, used, matches, addressed}
-use Rattle.rules.specs.Layout.{size, most, key, inSet, upTo, deviceUnits, deviceRecord}
+use Rattle.rules.specs.Layout.{size, most, key, unitsLength, inSet, upTo, deviceUnits, deviceRecord}
 use Rattle.rules.specs.Frame.{table}
-use Rattle.rules.specs.Exists.{hasUnit, unitExists}
+use Rattle.rules.specs.Exists.{hasUnit, unitExists, mayCommand, hasRights}
 use Rattle.rules.specs.Sound.{wholeRecords, deviceInRange, deviceFits, fits, distinct, soundTable}
-use Rattle.rules.specs.Carry.{oldSize, oldHighest, oldFits, oldSound, oldHasUnit, oldUnitExists, carried, carriedTable}
-use Rattle.rules.proofs.Lists.{some?, none?, and-parts, and-true, split, join, any-count, all-count}
+use Rattle.rules.specs.Carry.{oldSize, oldAddress, oldRights, oldHighest, oldFits, oldSound, oldHasUnit, oldUnitExists, oldHasRights, carried}
+use Rattle.rules.specs.Carry.{carriedTable, times}
+use Rattle.rules.proofs.Lists.{some?, none?, and-parts, and-true, split, same-truth, any-count, all-count}
 use Rattle.rules.proofs.Records.{Each, length-bytes, length-records, records-bytes}
 use Rattle.rules.proofs.Words.{shaped, shaped-length, shaped-octets, octet-small, word-below, addressed-word, begins-word}
 use Rattle.rules.proofs.UnitSets.{shaped-up-to, in-up-to}
@@ -30,12 +30,12 @@ last-unset h = step (leb h 254) refl
 
 -- a used record, as it is carried
 abbrev as-device : Rec → Rec
-as-device r = deviceRecord (device (word 0 r)) (octet 2 r) (upTo (octet 3 r))
+as-device r = deviceRecord (oldAddress r) (oldRights r) (upTo (oldHighest r))
 
 device-of : (r : Rec) → shaped oldSize r ≡ true → Stored (size Devices) (as-device r)
 device-of r s =
-    device-stored (device (word 0 r)) (octet 2 r) (upTo (octet 3 r)) (word-below oldSize 0 r s) (octet-small r 2 (shaped-octets oldSize r s))
-    (shaped-up-to (octet 3 r))
+    device-stored (oldAddress r) (oldRights r) (upTo (oldHighest r)) (word-below oldSize 0 r s) (octet-small r 2 (shaped-octets oldSize r s))
+    (shaped-up-to (oldHighest r))
 
 -- a new record has its octets, and is free iff the old one is
 shaped-carried : (r : Rec) → shaped oldSize r ≡ true → shaped (size Devices) (carried r) ≡ true
@@ -53,7 +53,7 @@ module _ (r : Rec) (s : shaped oldSize r ≡ true) (f : free? r ≡ false) where
   used-carried = rw f
 
   word-carried : word 0 (carried r) ≡ word 0 r
-  word-carried = rw (used-carried, device-address (device (word 0 r)) (octet 2 r) (upTo (octet 3 r)))
+  word-carried = rw (used-carried, device-address (oldAddress r) (oldRights r) (upTo (oldHighest r)))
 
   -- it has the same address
   addressed-carried : (a : ℕ) → addressed a (carried r) ≡ addressed a r
@@ -63,20 +63,25 @@ module _ (r : Rec) (s : shaped oldSize r ≡ true) (f : free? r ≡ false) where
   -- the same units
   units-same : (u : ℕ) → u ≤ 255 → inSet u (deviceUnits (carried r)) ≡ leb u (oldHighest r)
   unfolding deviceRecord octets
-  units-same u l = rw used-carried (in-up-to (octet 3 r) u l)
+  units-same u l = rw used-carried (in-up-to (oldHighest r) u l)
 
   has-unit-carried : (d : DeviceAddress) (u : ℕ) → u ≤ 255 → hasUnit d u (carried r) ≡ oldHasUnit d u r
   unfolding hasUnit oldHasUnit
   has-unit-carried d u l = rw (addressed-carried (d .0), units-same u l)
 
+  -- the same rights
+  rights-same : (d : DeviceAddress) → mayCommand d (carried r) ≡ (addressed (d .0) r & eqb (oldRights r) 1)
+  unfolding mayCommand deviceRecord octets
+  rights-same d = rw (addressed-carried (d .0), used-carried)
+
   -- and is in range iff the old one was
   fits-carried : deviceFits (carried r) ≡ oldFits r
   unfolding deviceFits deviceInRange oldFits deviceRecord octets _&_
   fits-carried =
-      let h : ℕ = octet 3 r in
+      let h : ℕ = oldHighest r in
       rw (
         used-carried,
-        device-address (device (word 0 r)) (octet 2 r) (upTo h),
+        device-address (oldAddress r) (oldRights r) (upTo h),
         in-up-to h 0 (omega arith),
         in-up-to h 255 (omega arith),
         le-leb 0 h (omega arith),
@@ -136,7 +141,7 @@ pub length-carried : (r : Rec) → length (carried r) ≡ size Devices
 unfolding carried deviceRecord octets
 length-carried r =
     elim (free? r) as (λ b. length (cond b (replicate 36 255) (as-device r)) ≡ 36)
-    [ true ↦ refl | false ↦ omega (arith, shaped-length 32 (upTo (octet 3 r)) (shaped-up-to (octet 3 r))) ]
+    [ true ↦ refl | false ↦ omega (arith, shaped-length unitsLength (upTo (oldHighest r)) (shaped-up-to (oldHighest r))) ]
 
 each-carried : (rs : List Rec) → Each (size Devices) (map carried rs)
 each-carried [] = tt
@@ -146,7 +151,7 @@ records-carried : (old : List ℕ) → table Devices (carriedTable old) ≡ map 
 unfolding carriedTable
 records-carried old = records-bytes (size Devices) (map carried (records oldSize old)) (omega arith) (each-carried (records oldSize old))
 
-pub length-table : (old : List ℕ) → length old % oldSize ≡ 0 → length (carriedTable old) ≡ 9 * length old
+pub length-table : (old : List ℕ) → length old % oldSize ≡ 0 → length (carriedTable old) ≡ times * length old
 unfolding carriedTable
 length-table old h =
     length-bytes (size Devices) (map carried (records oldSize old)) (each-carried (records oldSize old))
@@ -159,6 +164,18 @@ old-whole old h =
     let w = split (split (split h .0) .0) in
     (eqb-true (length old % oldSize) 0 (w .0), leb-true (length old) (most Devices * oldSize) (w .1))
 
+-- whole records, and no more than there may be
+whole-carried : (old : List ℕ) → length old % oldSize ≡ 0
+    → wholeRecords (size Devices) (most Devices) (carriedTable old) ≡ wholeRecords oldSize (most Devices) old
+unfolding wholeRecords _&_
+whole-carried old h =
+    let n : length (carriedTable old) ≡ times * length old = length-table old h in
+    let m : length (carriedTable old) % size Devices ≡ 0 = omega arith in
+    rw (eq-eqb (length (carriedTable old) % size Devices) 0 m, eq-eqb (length old % oldSize) 0 h)
+    (same-truth _ _
+    (λ e. le-leb (length old) (most Devices * oldSize) (omega (arith, n, leb-true (length (carriedTable old)) (most Devices * size Devices) e)))
+    (λ e. le-leb (length (carriedTable old)) (most Devices * size Devices) (omega (arith, n, leb-true (length old) (most Devices * oldSize) e))))
+
 module _ (old : List ℕ) (o : octetString old ≡ true) where
   old-shaped : all (shaped oldSize) (records oldSize old) ≡ true
   old-shaped = shaped-records oldSize old o
@@ -169,15 +186,13 @@ module _ (old : List ℕ) (o : octetString old ≡ true) where
   units-carried d u l =
       rw (records-carried old, any-carried (hasUnit d u) (oldHasUnit d u) (λ r s f. has-unit-carried r s f d u l) (records oldSize old) old-shaped)
 
-  -- A sound old table is carried into a sound new one
-  pub sound-carried : (ds gs : List Rec) → oldSound old ≡ true → soundTable Devices ds gs (carriedTable old) ≡ true
-  unfolding oldSound soundTable fits wholeRecords
+  -- A device has rights by the new table iff it had them by the old one
+  pub rights-carried : (d : DeviceAddress) → hasRights (table Devices (carriedTable old)) d ≡ oldHasRights old d
+  unfolding hasRights oldHasRights
+  rights-carried d = rw (records-carried old, any-carried (mayCommand d) _ (λ r s f. rights-same r s f d) (records oldSize old) old-shaped)
+
+  -- The new table is sound iff the old one was
+  pub sound-carried : (ds gs : List Rec) → length old % oldSize ≡ 0 → soundTable Devices ds gs (carriedTable old) ≡ oldSound old
+  unfolding oldSound soundTable fits
   sound-carried ds gs h =
-      let a = split h in
-      let b = split (a .0) in
-      let w = old-whole old h in
-      let n : length (carriedTable old) ≡ 9 * length old = length-table old (w .0) in
-      let whole = eq-eqb (length (carriedTable old) % size Devices) 0 (omega arith) in
-      let few = le-leb (length (carriedTable old)) (most Devices * size Devices) (omega arith) in
-      join (join (join whole few) (rw (records-carried old, all-fit (records oldSize old) old-shaped) (b .1)))
-      (rw (records-carried old, distinct-carried (records oldSize old) old-shaped) (a .1))
+      rw (whole-carried old h, records-carried old, all-fit (records oldSize old) old-shaped, distinct-carried (records oldSize old) old-shaped)

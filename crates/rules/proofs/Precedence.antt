@@ -1,5 +1,5 @@
 -- The order of outcomes (document 01, Outcomes): the checks of each call as the paper lists them, and that the first which fails gives the outcome,
--- whatever is wrong behind it. The rows with several faults (`order` of `RowsOfRefusals`, and those of `RowsOfCalls`) are inputs that show it.
+-- whatever is wrong behind it. The rows with several faults (`order` of `RowsOfRefusals`, those of `RowsOfCalls`, `not-carried`) are inputs that show it.
 use Rattle.words.specs.Basics.{_≡_, refl, sym, Bool, true, false, not, false≢true, List, [], _∷_, _++_, ℕ, _*_, eqb, length}
 use Rattle.words.specs.Names.{noFields}
 use Rattle.words.specs.declared.Decoded.the-variants.{Is, NotServed}
@@ -17,7 +17,7 @@ use Rattle.rules.specs.Sound.{deviceInRange, sound}
 use Rattle.rules.specs.Payloads.{command}
 use Rattle.rules.specs.Copy.{copyFits, CopyAnswer, copyAnswer, copy}
 use Rattle.rules.specs.Host.{settled, admission, admit, release}
-use Rattle.rules.specs.Carry.{oldSound, carrying, carryOver}
+use Rattle.rules.specs.Carry.{oldSound, times, carryOutcome, carryOver}
 use Rattle.rules.specs.Calls.{roomy, toMany, asking, wayTo, wayOn, way, follow, message}
 
 -- a check: does it pass, and the outcome where it does not
@@ -72,7 +72,7 @@ admitChecks L d rights us =
 
 -- carrying over: "16 .., then 17" (document 02, request 2)
 abbrev pub carryChecks : List ℕ → List ℕ → List Check
-carryChecks old new = check (oldSound old) Unsound ∷ check (eqb (length new) (9 * length old)) NoRoom ∷ []
+carryChecks old new = check (oldSound old) Unsound ∷ check (eqb (length new) (times * length old)) NoRoom ∷ []
 
 -- "Release: 16, 23, else 0."
 abbrev pub releaseChecks : Lent → DeviceAddress → List Check
@@ -143,7 +143,7 @@ admit-order L d rights us =
     first-of (λ o. o) (hosted _ Unsound (hosted _ OutOfRange (hosted _ AlreadyAdmitted (hosted _ NoFreeRecord last))))
 
 pub carry-order : (old new : List ℕ) → FirstOf (carryChecks old new) (carryOver old new .outcome)
-unfolding carryOver carrying
+unfolding carryOver carryOutcome
 carry-order old new = first-of (λ o. o) (hosted _ Unsound (hosted _ NoRoom last))
 
 pub release-order : (L : Lent) (d : DeviceAddress) → FirstOf (releaseChecks L d) (release L d .outcome)

@@ -4,6 +4,7 @@ use Rattle.words.specs.Basics.{refl, List, [], _∷_, _++_, ℕ}
 use Rattle.rules.specs.Frame.{Lent}
 use Rattle.rules.specs.Message.{reading}
 use Rattle.rules.specs.Calls.{Answer}
+use Rattle.rules.specs.History.{octetsOnly}
 use Rattle.words.specs.Outcomes.{numberOf, valueOf}
 use Rattle.words.specs.declared.Outcome.the-variants.{NotServed}
 use Rattle.words.proofs.Apart.{readBack}
@@ -142,6 +143,7 @@ pub record AllRows : Type 0 where
   pub units-with-gaps : AsTold answerTo units.units-with-gaps
   pub gaps-in-commands : AsTold answerTo units.gaps-in-commands
   pub existing-by-history : AsTold units.existsAfter units.existing-by-history
+  pub sets-of-a-run : AsTold octetsOnly units.sets-of-a-run
   pub carried-over : AsTold units.carryOf units.carried-over
   pub not-carried : AsTold units.carryOf units.not-carried
 
@@ -184,6 +186,7 @@ as-told = record {
   units-with-gaps = refl;
   gaps-in-commands = refl;
   existing-by-history = refl;
+  sets-of-a-run = refl;
   carried-over = refl;
   not-carried = refl;
 }

@@ -7,8 +7,8 @@ use Rattle.rules.specs.Frame.{Lent}
 use Rattle.rules.specs.Message.{readingOf}
 use Rattle.rules.specs.Copy.{CopyAnswer, copyAnswer, copy}
 use Rattle.rules.specs.Host.{HostAnswer, hostAnswer, admit, release}
-use Rattle.rules.proofs.Samples.{Row, row, run, lending, filled, units, only-zero, zero-to-one, zero-to-two, zero-to-254, known}
-use Rattle.rules.proofs.Samples.{device-table, D1, D3, D4, D5, groups, members, holding, house}
+use Rattle.rules.proofs.Samples.{Row, row, run, lending, filled, units, only-zero, zero-to-one, zero-to-two, zero-to-254, valance, valance-without-zero}
+use Rattle.rules.proofs.Samples.{with-255, known, device-table, D1, D3, D4, D5, groups, members, holding, house, plain}
 
 -- a message with every reserved bit set, transport 0xAA 0xBB, and three octets of payload
 abbrev full : List ℕ
@@ -110,9 +110,6 @@ admitting L d r us = record { tables = L; address = d; rights = r; units = us }
 abbrev pub admitOf : Admitting → HostAnswer
 admitOf x = admit (x .tables) (device (x .address)) (x .rights) (x .units)
 
-abbrev plain : Lent
-plain = house []
-
 -- the devices of the house without the free record
 abbrev four-devices : List ℕ
 four-devices = D1 ++ D3 ++ D4 ++ D5
@@ -146,26 +143,26 @@ admissions =
     ∷ admits 2 1 only-zero
     ∷ admits 0x7FFE 0 zero-to-254
     -- with gaps: units 0, 1, 2 and 9; 0 and 254
-    ∷ admits 6 0 (units (0x07 ∷ 0x02 ∷ []))
+    ∷ admits 6 0 valance
     ∷ admits 6 1 (0x01 ∷ replicate 30 0x00 ++ 0x40 ∷ [])
     -- 20: D'0000, D'7FFF, the top bit; rights 2; unit 0 not set, with units 1, 2 and 9, with unit 7 and with none; unit 255 set
     ∷ not-admitted plain 0 1 zero-to-two 20
     ∷ not-admitted plain 0x7FFF 1 zero-to-two 20
     ∷ not-admitted plain 0x8006 1 zero-to-two 20
     ∷ not-admitted plain 6 2 zero-to-two 20
-    ∷ not-admitted plain 6 1 (units (0x06 ∷ 0x02 ∷ [])) 20
+    ∷ not-admitted plain 6 1 valance-without-zero 20
     ∷ not-admitted plain 6 1 (units (0x80 ∷ [])) 20
     ∷ not-admitted plain 6 1 (units []) 20
-    ∷ not-admitted plain 6 1 (0x01 ∷ replicate 30 0x00 ++ 0x80 ∷ []) 20
+    ∷ not-admitted plain 6 1 with-255 20
     ∷ not-admitted plain 6 1 (replicate 32 0xFF) 20
     -- in the paper's order four faults, and then one less each: 16, 20, 21, 22
     ∷ not-admitted unsound 3 2 zero-to-one 16
     ∷ not-admitted full-of-devices 3 2 zero-to-one 20
+    ∷ not-admitted full-of-devices 3 1 (units []) 20
     ∷ not-admitted full-of-devices 3 1 zero-to-one 21
     ∷ not-admitted full-of-devices 6 1 zero-to-one 22
     ∷ not-admitted plain 3 1 zero-to-one 21
     ∷ not-admitted absent-group 6 1 zero-to-one 16
-    ∷ not-admitted full-of-devices 3 1 (units []) 20
     ∷ []
 
 -- release this device from these tables

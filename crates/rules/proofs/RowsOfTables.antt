@@ -2,7 +2,7 @@
 use Rattle.words.specs.Basics.{List, [], _∷_, _++_, map, ℕ, _+_, replicate}
 use Rattle.rules.specs.Frame.{Lent}
 use Rattle.rules.specs.Calls.{Answer}
-use Rattle.rules.proofs.Samples.{Row, row, run, lending, filled, units, only-zero, zero-to-one, zero-to-two, zero-to-254, known, device-table}
+use Rattle.rules.proofs.Samples.{Row, row, run, lending, filled, units, only-zero, zero-to-one, zero-to-two, zero-to-254, with-255, known, device-table}
 use Rattle.rules.proofs.Samples.{D3, D4, D5, named, devices, groups, members, holding, three-one, curtains, request, Sent, told, sent, reply, goes}
 
 -- the house with one more record, or with other octets, in one table
@@ -62,7 +62,7 @@ devices-and-groups =
     ∷ with-device 6 0 (units (0x06 ∷ []))
     ∷ with-device 6 0 (units (0x80 ∷ []))
     ∷ with-device 6 0 (units [])
-    ∷ with-device 6 0 (0x01 ∷ replicate 30 0x00 ++ 0x80 ∷ [])
+    ∷ with-device 6 0 with-255
     ∷ with-device 6 0 (replicate 32 0xFF)
     -- a record that begins with 0xFF and is not free
     ∷ with-record (replicate 35 0xFF ++ 0xFE ∷ [])

@@ -1,21 +1,19 @@
 -- Rows: units with gaps in their numbers, and old tables carried over (document 02, request 2).
-use Rattle.words.specs.Basics.{Bool, true, false, List, [], _∷_, _++_, map, ℕ, _*_, _/_, _%_, replicate}
+use Rattle.words.specs.Basics.{Bool, true, false, List, [], _∷_, _++_, map, ℕ, zero, suc, _+_, _*_, _/_, _%_, replicate}
 use Rattle.words.specs.Names.{device}
 use Rattle.words.proofs.Apart.{readBack}
 use Rattle.rules.specs.Frame.{Lent}
 use Rattle.rules.specs.Calls.{Answer}
 use Rattle.rules.specs.Carry.{CarryAnswer, carryAnswer, carryOver}
 use Rattle.rules.specs.History.{Call, admits, releases, history, existing}
-use Rattle.rules.proofs.Samples.{Row, row, run, lending, filled, units, only-zero, zero-to-one, zero-to-254, known, device-table, D3, named, holding}
+use Rattle.rules.proofs.Samples.{Row, row, run, lending, filled, units, only-zero, zero-to-one, zero-to-254, valance, valance-without-zero, with-255}
+use Rattle.rules.proofs.Samples.{known, device-table, D3, named, holding}
 use Rattle.rules.proofs.Samples.{three-one, curtains, bindManagement, groupManagement, letter, request, Sent, sent, unchanged, goes, grants, code}
 
--- A house with gaps: device 3, with rights, has units 0 to 2; device 6, a valance of three motors, has units 0, 1, 2 and 9; device 7 has 0, 7, 8, 16, 248, 254
-
-abbrev valance : List ℕ
-valance = units (0x07 ∷ 0x02 ∷ [])
+-- A house with gaps: device 3, with rights, has units 0 to 2; device 6, the valance, has 0, 1, 2 and 9; device 7 has 0, 7, 8, 16, 100, 248 and 254
 
 abbrev edges : List ℕ
-edges = 0x81 ∷ 0x01 ∷ 0x01 ∷ replicate 28 0x00 ++ 0x41 ∷ []
+edges = 0x81 ∷ 0x01 ∷ 0x01 ∷ replicate 9 0x00 ++ 0x10 ∷ replicate 18 0x00 ++ 0x41 ∷ []
 
 abbrev with-gaps : List ℕ → List ℕ → Lent
 with-gaps bs ms = holding (D3 ++ known 6 0 valance ++ known 7 0 edges) (filled 8 bs) (named 1 []) (filled 5 ms)
@@ -26,12 +24,15 @@ gaps = with-gaps [] []
 -- units that are there, and neighbours of theirs that are not: one below, one above, eight on, mirrored in their octet; a unit of the other device; 255
 
 abbrev there : List ℕ
-there = 0x00_06_00 ∷ 0x00_06_01 ∷ 0x00_06_02 ∷ 0x00_06_09 ∷ 0x00_07_00 ∷ 0x00_07_07 ∷ 0x00_07_08 ∷ 0x00_07_10 ∷ 0x00_07_F8 ∷ 0x00_07_FE ∷ []
+there =
+    0x00_06_00 ∷ 0x00_06_01 ∷ 0x00_06_02 ∷ 0x00_06_09 ∷ 0x00_07_00 ∷ 0x00_07_07 ∷ 0x00_07_08 ∷ 0x00_07_10 ∷ 0x00_07_64 ∷ 0x00_07_F8
+    ∷ 0x00_07_FE ∷ []
 
 abbrev absent : List ℕ
 absent =
     0x00_06_03 ∷ 0x00_06_05 ∷ 0x00_06_06 ∷ 0x00_06_07 ∷ 0x00_06_08 ∷ 0x00_06_0A ∷ 0x00_06_0E ∷ 0x00_06_11 ∷ 0x00_06_10 ∷ 0x00_06_F8 ∷ 0x00_06_FF
-    ∷ 0x00_07_01 ∷ 0x00_07_02 ∷ 0x00_07_06 ∷ 0x00_07_09 ∷ 0x00_07_0F ∷ 0x00_07_11 ∷ 0x00_07_18 ∷ 0x00_07_F0 ∷ 0x00_07_F9 ∷ 0x00_07_FD ∷ 0x00_07_FF ∷ []
+    ∷ 0x00_07_01 ∷ 0x00_07_02 ∷ 0x00_07_06 ∷ 0x00_07_09 ∷ 0x00_07_0F ∷ 0x00_07_11 ∷ 0x00_07_18 ∷ 0x00_07_5C ∷ 0x00_07_63 ∷ 0x00_07_65 ∷ 0x00_07_6C
+    ∷ 0x00_07_F0 ∷ 0x00_07_F9 ∷ 0x00_07_FD ∷ 0x00_07_FF ∷ []
 
 -- as senders, and as destinations
 abbrev pub units-with-gaps : List (Row Sent Answer)
@@ -65,34 +66,41 @@ gaps-in-commands =
     member-nine : List ℕ
     member-nine = run 5 0x00_01_00_06_09
 
--- Which units exist by history, after these calls from free tables: the latest call stands first
+-- By history, and in its runs
 
-pub record After : Type 0 where
+-- a unit, after these calls from free tables: the latest call stands first
+pub record Asked : Type 0 where
   pub calls : List Call
   pub unit : ℕ
 
-abbrev after : List Call → ℕ → After
-after cs u = record { calls = cs; unit = u }
+abbrev asked : List Call → ℕ → Asked
+asked cs u = record { calls = cs; unit = u }
 
-abbrev pub existsAfter : After → Bool
+abbrev pub existsAfter : Asked → Bool
 existsAfter x = existing (history free-tables (x .calls)) (device (x .unit / 256)) (x .unit % 256)
   where
     free-tables : Lent
     free-tables = holding (device-table 2 []) (filled 8 []) (filled 16 []) (filled 5 [])
 
-abbrev taught : List Call
-taught = admits (device 6) 0 valance ∷ []
+abbrev admitted : List Call
+admitted = admits (device 6) 0 valance ∷ []
 
-abbrev pub existing-by-history : List (Row After Bool)
+abbrev pub existing-by-history : List (Row Asked Bool)
 existing-by-history =
-    map (λ u. row (after taught u) true) (0x00_06_00 ∷ 0x00_06_01 ∷ 0x00_06_02 ∷ 0x00_06_09 ∷ 0x00_00_00 ∷ [])
-    ++ map (λ u. row (after taught u) false) (0x00_06_03 ∷ 0x00_06_08 ∷ 0x00_06_0A ∷ 0x00_06_FF ∷ 0x00_07_00 ∷ 0x00_00_01 ∷ [])
+    map (λ u. row (asked admitted u) true) (0x00_06_00 ∷ 0x00_06_01 ∷ 0x00_06_02 ∷ 0x00_06_09 ∷ 0x00_00_00 ∷ [])
+    ++ map (λ u. row (asked admitted u) false) (0x00_06_03 ∷ 0x00_06_08 ∷ 0x00_06_0A ∷ 0x00_06_FF ∷ 0x00_07_00 ∷ 0x00_00_01 ∷ [])
     -- released; released and admitted with another set; refused, since unit 0 is not set
-    ++ row (after (releases (device 6) ∷ taught) 0x00_06_09) false
-    ∷ row (after (admits (device 6) 0 zero-to-one ∷ releases (device 6) ∷ taught) 0x00_06_01) true
-    ∷ row (after (admits (device 6) 0 zero-to-one ∷ releases (device 6) ∷ taught) 0x00_06_09) false
-    ∷ row (after (admits (device 6) 0 (units (0x06 ∷ 0x02 ∷ [])) ∷ []) 0x00_06_09) false
+    ++ row (asked (releases (device 6) ∷ admitted) 0x00_06_09) false
+    ∷ row (asked (admits (device 6) 0 zero-to-one ∷ releases (device 6) ∷ admitted) 0x00_06_01) true
+    ∷ row (asked (admits (device 6) 0 zero-to-one ∷ releases (device 6) ∷ admitted) 0x00_06_09) false
+    ∷ row (asked (admits (device 6) 0 valance-without-zero ∷ []) 0x00_06_09) false
     ∷ []
+
+-- condition 3 speaks of every set of 32 octets, in range or not, and of no other list
+abbrev pub sets-of-a-run : List (Row Call Bool)
+sets-of-a-run =
+    map (λ us. row (admits (device 6) 0 us) true) (valance ∷ edges ∷ zero-to-254 ∷ valance-without-zero ∷ with-255 ∷ [])
+    ++ map (λ us. row (admits (device 6) 0 us) false) ((0x07 ∷ replicate 30 0x00) ∷ (0x07 ∷ replicate 32 0x00) ∷ units (0x100 ∷ []) ∷ [])
 
 -- Old tables carried over
 
@@ -121,20 +129,32 @@ unsound n old = refuses old (36 * n) 16
 
 abbrev pub carried-over : List (Row CarryingOver CarryAnswer)
 carried-over =
-    -- units 0 to the highest, which is 0, 1, 7, 8, 9, 253 and 254; addresses of two octets
+    -- units 0 to the highest, which is 0, 1, 7, 8, 9, 100, 127, 128, 253 and 254; addresses of two octets
     carries 0x00_03_01_00 (known 3 1 only-zero)
     ∷ carries 0x00_05_00_01 (known 5 0 zero-to-one)
     ∷ carries 0x00_05_00_07 (known 5 0 (units (0xFF ∷ [])))
     ∷ carries 0x00_05_00_08 (known 5 0 (units (0xFF ∷ 0x01 ∷ [])))
     ∷ carries 0x00_05_00_09 (known 5 0 (units (0xFF ∷ 0x03 ∷ [])))
+    ∷ carries 0x00_05_00_64 (known 5 0 (units (replicate 12 0xFF ++ 0x1F ∷ [])))
+    ∷ carries 0x00_05_00_7F (known 5 0 (units (replicate 16 0xFF)))
+    ∷ carries 0x00_05_00_80 (known 5 0 (units (replicate 16 0xFF ++ 0x01 ∷ [])))
     ∷ carries 0x12_34_00_FD (known 0x1234 0 (replicate 31 0xFF ++ 0x3F ∷ []))
     ∷ carries 0x7F_FE_01_FE (known 0x7FFE 1 zero-to-254)
-    -- record by record, and free ones free; no record; 64 free ones
+    -- record by record, and free ones free; no record; 64 free ones, and 64 used ones
     ∷ into (filled 4 [] ++ run 4 0x00_03_01_02 ++ filled 4 [] ++ run 4 0x00_01_00_01) 144
     0 (device-table 1 [] ++ D3 ++ device-table 1 [] ++ known 1 0 zero-to-one)
     ∷ into [] 0 0 []
     ∷ into (filled 256 []) 2304 0 (device-table 64 [])
+    ∷ into (old-devices 64) 2304 0 (new-devices 64)
     ∷ []
+  where
+    old-devices : ℕ → List ℕ
+    old-devices zero = []
+    old-devices (suc n) = old-devices n ++ run 4 (0x00_01_00_01 + n * 0x1_00_00)
+
+    new-devices : ℕ → List ℕ
+    new-devices zero = []
+    new-devices (suc n) = new-devices n ++ known (1 + n) 0 zero-to-one
 
 abbrev pub not-carried : List (Row CarryingOver CarryAnswer)
 not-carried =

@@ -36,7 +36,7 @@ filled n t = t ++ replicate (n - length t) 0xFF
 
 -- Sets of units, 32 octets each
 
--- those of the first octets, and no other
+-- these octets first, and no unit behind them
 abbrev pub units : List ℕ → List ℕ
 units s = s ++ replicate (32 - length s) 0x00
 
@@ -51,6 +51,17 @@ zero-to-two = units (0x07 ∷ [])
 
 abbrev pub zero-to-254 : List ℕ
 zero-to-254 = replicate 31 0xFF ++ 0x7F ∷ []
+
+-- a valance with three motors, units 1, 2 and 9; the same without unit 0
+abbrev pub valance : List ℕ
+valance = units (0x07 ∷ 0x02 ∷ [])
+
+abbrev pub valance-without-zero : List ℕ
+valance-without-zero = units (0x06 ∷ 0x02 ∷ [])
+
+-- units 0 and 255
+abbrev pub with-255 : List ℕ
+with-255 = 0x01 ∷ replicate 30 0x00 ++ 0x80 ∷ []
 
 -- A house: devices 1 (rights 0, units 0 and 1), 3 (1, 0 to 2), 4 (0, 0 to 2) and 5 (0, 0 and 1); groups 1 "S" and 2 without a name; members of group 1, by
 -- falling device. Each of these tables has one free record.

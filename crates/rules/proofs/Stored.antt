@@ -1,12 +1,11 @@
 -- The records that calls store: each has its table's size, is made of octets, and is no free record.
 use Rattle.words.specs.Basics.{_≡_, refl, Bool, true, false, _&&_, List, [], _∷_, ℕ, suc, _+_, _-_, _/_, _%_, _<_, _≤_, arith, eqb, leb, length, drop}
 use Rattle.words.specs.Basics.{replicate, length-append, length-replicate, drop-at, eq-eqb, ne-eqb, leb-true, le-leb}
-use Rattle.words.specs.Names.{device}
 use Rattle.rules.specs.Types.{DeviceAddress, GroupAddress, Devices, Binds, Groups, Members}
 use Rattle.rules.specs.Lists.{all}
 use Rattle.rules.specs.Octets.{octet, word, octets, ignoreTop, octetString}
 use Rattle.rules.specs.Tables.{Rec, free?}
-use Rattle.rules.specs.Layout.{size, unitsLength, longestName, deviceRecord, groupRecord}
+use Rattle.rules.specs.Layout.{size, unitsLength, longestName, deviceAddress, deviceRights, deviceUnits, deviceRecord, groupRecord}
 use Rattle.rules.specs.Sound.{addressFits, deviceInRange, deviceFits, groupFits}
 use Rattle.rules.specs.Payloads.{bindOf, memberOf, groupNamed}
 use Rattle.rules.proofs.Lists.{and-parts, split, join, all-append, all-replicate}
@@ -97,7 +96,7 @@ module _ (d : DeviceAddress) (a : ℕ) (us : List ℕ) where
       (octets-before (d .0 % 256) _ (omega arith)
       (octets-before a _ (omega arith) (octets-before 0 us (omega arith) (shaped-octets unitsLength us s)))))
 
-  -- its octet 0 makes it no free record
+  -- the 0 behind its rights makes it no free record
   device-used : free? (deviceRecord d a us) ≡ false
   unfolding deviceRecord octets free? all
   device-used = three (eqb (d .0 / 256) 255) (eqb (d .0 % 256) 255) (eqb a 255)
@@ -127,4 +126,4 @@ module _ (d : DeviceAddress) (a : ℕ) (us : List ℕ) where
 
 pub device-high : (r : Rec) → deviceFits r ≡ true → word 0 r ≤ 32766
 unfolding deviceFits
-device-high r h = device-fields (device (word 0 r)) (octet 2 r) (drop 4 r) (split h .0) .0
+device-high r h = device-fields (deviceAddress r) (deviceRights r) (deviceUnits r) (split h .0) .0

@@ -2,8 +2,8 @@
 use native.Mathlib.Nat.{pow-succ', one-le-pow, pow-le-pow-right, zero-div, div-one, div-div-eq-div-mul, add-zero}
 use native.Mathlib.Nat.{pow-zero}
 use lib.Dec.{leb·suc-suc}
-use Rattle.words.specs.Basics.{_≡_, refl, sym, ap, _∙_, Bool, true, false, cond, ℕ, zero, suc, _+_, _*_, _-_, _/_, _%_, _^_, _<_, _≤_, arith, eqb, leb, ltb}
-use Rattle.words.specs.Basics.{length, getD, leb-true, leb-false, lt-ltb, le-ltb, le-leb, lt-leb, eq-eqb}
+use Rattle.words.specs.Basics.{_≡_, refl, sym, ap, _∙_, Bool, true, false, ℕ, zero, suc, _+_, _*_, _-_, _/_, _%_, _^_, _<_, _≤_, min, arith, eqb, leb, ltb}
+use Rattle.words.specs.Basics.{length, getD, leb-true, leb-false, lt-ltb, le-ltb, le-leb, eq-eqb}
 use Rattle.rules.specs.Lists.{all}
 use Rattle.rules.specs.Octets.{bit, octetString}
 use Rattle.rules.specs.Layout.{unitsLength, inSet, among, lowBits, octetsUpTo, upTo}
@@ -40,39 +40,28 @@ pow-least n = one-le-pow n 2 (omega arith)
 
 pub among-none : (top i : ℕ) → top + 1 ≤ i * 8 → 0 ≡ among top i
 unfolding among
-among-none top i l =
-    let e : top + 1 - i * 8 ≡ 0 = omega arith in
-    rw e
+among-none top i l = omega arith
 
 pub among-some : (top i : ℕ) → top + 1 - i * 8 ≤ 8 → top + 1 - i * 8 ≡ among top i
 unfolding among
-among-some top i l = rw (le-leb (top + 1 - i * 8) 8 l)
+among-some top i l = omega arith
 
 pub among-all : (top i : ℕ) → 8 < top + 1 - i * 8 → 8 ≡ among top i
 unfolding among
-among-all top i l = rw (lt-leb (top + 1 - i * 8) 8 l)
+among-all top i l = omega arith
 
 pub among-most : (top i : ℕ) → among top i ≤ 8
 unfolding among
-among-most top i = step (leb (top + 1 - i * 8) 8) refl
-  where
-    step : (b : Bool) → leb (top + 1 - i * 8) 8 ≡ b → cond b (top + 1 - i * 8) 8 ≤ 8
-    step true e = leb-true (top + 1 - i * 8) 8 e
-    step false e = omega arith
+among-most top i = omega arith
 
 -- unit k of octet i is among them iff its number is at most `top`
 among-unit : (top i k : ℕ) → k < 8 → ltb k (among top i) ≡ leb (i * 8 + k) top
 unfolding among
-among-unit top i k l = step (leb (top + 1 - i * 8) 8) refl (leb (i * 8 + k) top) refl
+among-unit top i k l = step (leb (i * 8 + k) top) refl
   where
-    step : (b : Bool) → leb (top + 1 - i * 8) 8 ≡ b → (d : Bool) → leb (i * 8 + k) top ≡ d → ltb k (cond b (top + 1 - i * 8) 8) ≡ d
-    step true e true f = let p : i * 8 + k ≤ top = leb-true (i * 8 + k) top f in lt-ltb k (top + 1 - i * 8) (omega arith)
-    step true e false f = let p : top < i * 8 + k = leb-false (i * 8 + k) top f in le-ltb k (top + 1 - i * 8) (omega arith)
-    step false e true f = lt-ltb k 8 l
-    step false e false f =
-        let p : top < i * 8 + k = leb-false (i * 8 + k) top f in
-        let q : 8 < top + 1 - i * 8 = leb-false (top + 1 - i * 8) 8 e in
-        absurd (omega arith)
+    step : (b : Bool) → leb (i * 8 + k) top ≡ b → ltb k (min (top + 1 - i * 8) 8) ≡ b
+    step true e = let p : i * 8 + k ≤ top = leb-true (i * 8 + k) top e in lt-ltb k (min (top + 1 - i * 8) 8) (omega arith)
+    step false e = let p : top < i * 8 + k = leb-false (i * 8 + k) top e in le-ltb k (min (top + 1 - i * 8) 8) (omega arith)
 
 -- The set
 

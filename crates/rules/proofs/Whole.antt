@@ -92,8 +92,12 @@ unfolding host.settled host.admitting host.admission host.admit host.namesDevice
 of-host = 0
 
 unfoldable of-carry : ℕ
-unfolding carry.oldFits carry.oldSound carry.oldHasUnit carry.oldUnitExists carry.carried carry.carriedTable carry.carrying carry.carryOver
+unfolding carry.oldFits carry.oldSound carry.oldHasUnit carry.oldUnitExists carry.oldHasRights carry.carried carry.carriedTable carry.carryOutcome
 of-carry = 0
+
+unfoldable of-carry-2 : ℕ
+unfolding carry.carryOver
+of-carry-2 = 0
 
 unfoldable of-calls : ℕ
 unfolding calls.roomy calls.toMany calls.asking calls.wayTo calls.wayOn calls.way calls.answered calls.handled calls.forwarded calls.follow
@@ -124,7 +128,7 @@ unfolding of-lists of-octets of-units of-tables of-tables-2 of-layout of-frame o
 tables-and-messages = 0
 
 unfoldable commands-and-calls : ℕ
-unfolding of-sound-2 of-recipients of-payloads of-commands of-commands-2 of-copy of-carry
+unfolding of-sound-2 of-recipients of-payloads of-commands of-commands-2 of-copy of-carry of-carry-2
 commands-and-calls = 0
 
 unfoldable pub whole : ℕ

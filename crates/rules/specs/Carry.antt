@@ -1,6 +1,6 @@
 -- Old device tables carried over (document 02, request 2). In an old record of 4 octets a device has units 0 to its highest; a new one has them as a set.
 -- This call is made once, before the first call on the new table, and is no part of condition 3's runs.
-use Rattle.words.specs.Basics.{Bool, cond, List, map, ℕ, _*_, eqb, leb, length, replicate}
+use Rattle.words.specs.Basics.{Bool, true, cond, List, map, ℕ, _*_, eqb, leb, length, replicate}
 use Rattle.words.specs.Names.{device, concentrator, highestUnit}
 use Rattle.words.specs.Outcomes.{numberOf}
 use Rattle.rules.specs.Types.{DeviceAddress, Devices, Outcome, Done, Unsound, NoRoom}
@@ -32,13 +32,16 @@ oldFits r = addressFits (oldAddress r .0) & leb (oldRights r) 1 & leb (oldHighes
 unfoldable pub oldSound : List ℕ → Bool
 oldSound old = soundBy oldSize (most Devices) (key Devices) oldFits old
 
--- which units existed by an old table: "An admitted device has units 0 to its highest." (document 01, Tables)
+-- which units existed by an old table, and who had rights: "An admitted device has units 0 to its highest." (document 01, Tables)
 
 unfoldable pub oldHasUnit : DeviceAddress → ℕ → Rec → Bool
 oldHasUnit d u r = addressed (d .0) r & leb u (oldHighest r)
 
 unfoldable pub oldUnitExists : List ℕ → DeviceAddress → ℕ → Bool
 oldUnitExists old d u = cond (eqb (d .0) (concentrator .0)) (eqb u 0) (any (oldHasUnit d u) (used (records oldSize old)))
+
+unfoldable pub oldHasRights : List ℕ → DeviceAddress → Bool
+oldHasRights old d = cond (eqb (d .0) (concentrator .0)) true (any (λ r. addressed (d .0) r & eqb (oldRights r) 1) (used (records oldSize old)))
 
 -- The new table
 
@@ -60,10 +63,14 @@ pub record CarryAnswer : Type 0 where
 abbrev pub carryAnswer : Outcome → List ℕ → CarryAnswer
 carryAnswer o new = record { outcome = o; new = new }
 
+-- how many times longer the new table is
+abbrev pub times : ℕ
+times = 9
+
 -- "16 for an unsound old table, then 17 where the new one isn't nine times its length"
-unfoldable pub carrying : List ℕ → List ℕ → Outcome
-carrying old new = ask (oldSound old) Unsound (ask (eqb (length new) (9 * length old)) NoRoom (Done 0))
+unfoldable pub carryOutcome : List ℕ → List ℕ → Outcome
+carryOutcome old new = ask (oldSound old) Unsound (ask (eqb (length new) (times * length old)) NoRoom (Done 0))
 
 -- with outcome 0 every octet is written, with any other none
 unfoldable pub carryOver : List ℕ → List ℕ → CarryAnswer
-carryOver old new = let o : Outcome = carrying old new in carryAnswer o (cond (eqb (numberOf o) 0) (carriedTable old) new)
+carryOver old new = let o : Outcome = carryOutcome old new in carryAnswer o (cond (eqb (numberOf o) 0) (carriedTable old) new)

@@ -1,6 +1,6 @@
--- The records (document 01, Tables): how many octets each has, how many there may be, where its fields stand, and how it is built from them.
--- No other file knows the place of a field.
-use Rattle.words.specs.Basics.{Bool, cond, List, [], _∷_, _++_, ℕ, zero, suc, _+_, _-_, _*_, _/_, _%_, _^_, eqb, leb, length, take, drop, replicate}
+-- The records (document 01, Tables; a device's: document 02, request 2): how many octets each has, how many there may be, where its fields stand, and how
+-- it is built from them. No other file knows the place of a field, but for an old device's, which stand in `Carry`.
+use Rattle.words.specs.Basics.{Bool, List, [], _∷_, _++_, ℕ, zero, suc, _+_, _-_, _*_, _/_, _%_, _^_, min, eqb, length, take, drop, replicate}
 use Rattle.words.specs.Names.{device, group, flagSet}
 use Rattle.words.specs.declared.BindPart.the-variants.{Whole, Source, SourceUnit, Destination, DestinationUnit}
 use Rattle.rules.specs.Types.{DeviceAddress, GroupAddress, BindPart, Kind, Devices, Binds, Groups, Members}
@@ -55,7 +55,7 @@ inSet u us = eqb (bit (u % 8) (octet (u / 8) us)) 1
 
 -- how many of the eight units of octet i are at most `top`
 unfoldable pub among : ℕ → ℕ → ℕ
-among top i = cond (leb (top + 1 - i * 8) 8) (top + 1 - i * 8) 8
+among top i = min (top + 1 - i * 8) 8
 
 -- an octet with its n lowest bits set
 unfoldable pub lowBits : ℕ → ℕ

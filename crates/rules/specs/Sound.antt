@@ -8,7 +8,7 @@ use Rattle.rules.specs.Tables.{Rec, records, free?, used, matches}
 use Rattle.rules.specs.Layout.{size, most, key, inSet, deviceAddress, deviceRights, deviceZero, deviceUnits}
 use Rattle.rules.specs.Layout.{bindSource, bindSourceUnit, bindFrom, bindUid, toGroup, boundGroup, boundDevice, bindUnit, bindTo}
 use Rattle.rules.specs.Layout.{longestName, groupAddress, nameLength, namePadding, memberGroup, memberDevice, memberUnit}
-use Rattle.rules.specs.Frame.{Lent, lentOf, everyTable, Tables, tables}
+use Rattle.rules.specs.Frame.{Lent, lentOf, everyTable, tables}
 use Rattle.rules.specs.Exists.{unitExists, groupExists}
 
 -- "each length is a multiple of its record size and within the limit": records of k octets, n at most
@@ -66,7 +66,7 @@ distinct n (r ∷ t) = (free? r || not (any (matches 0 (take n r)) (used t))) &&
 abbrev pub soundBy : ℕ → ℕ → ℕ → (Rec → Bool) → List ℕ → Bool
 soundBy k n first passes t = wholeRecords k n t & all passes (used (records k t)) & distinct first (records k t)
 
--- .. by its octets and by what exists
+-- a table of the frame, whose rule may ask what exists
 unfoldable pub soundTable : Kind → List Rec → List Rec → List ℕ → Bool
 soundTable k ds gs t = soundBy (size k) (most k) (key k) (fits k ds gs) t
 

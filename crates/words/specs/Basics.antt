@@ -3,7 +3,7 @@ pub use mathlib.Core.Path.{_≡_, refl, sym, ap, _∙_}
 pub use mathlib.Core.Bool.{Bool, true, false, cond, not, _&&_, _||_, false≢true, or-false, or-true}
 pub use mathlib.Core.List.{List, [], _∷_, _++_, map, append-nil, append-assoc}
 unfoldable pub use mathlib.Core.List.{flatMap}
-pub use Prim.Native.Nat.{ℕ, zero, suc, _+_, _-_, _*_, _/_, _%_, _^_, _<_, _≤_, max}
+pub use Prim.Native.Nat.{ℕ, zero, suc, _+_, _-_, _*_, _/_, _%_, _^_, _<_, _≤_, min, max}
 pub use native.Mathlib.Omega.{arith}
 pub use lib.Dec.{eqb, leb, ltb}
 pub use lib.ListN.{length, take, drop, replicate, getD, set, length-drop, length-append, length-map, length-replicate, drop-of-length-le, length-set}

@@ -7,16 +7,16 @@ use Rattle.carrying.proofs.carry_over.Tie as tie
 carry-requires : tie.Need-carry-requires
 carry-requires c κs =
     let t = c .before in
-    passed _ _ (t .before .before .carrying .ensures) (t .before .number .ensures) (t .if1 .taken)
+    passed _ _ (t .before .before .carry-outcome .ensures) (t .before .number .ensures) (t .if1 .taken)
 
 returns : tie.Need-returns
 returns c =
     let w = c .before .before in
     let t = w .before .before in
-    carry-done _ _ (t .before .before .carrying .ensures) (t .before .number .ensures) (t .if1 .taken) (w .carry .ensures)
+    carry-done _ _ (t .before .before .carry-outcome .ensures) (t .before .number .ensures) (t .if1 .taken) (w .carry .ensures)
 
 returns-2 : tie.Need-returns-2
-returns-2 c = carry-refused _ _ (c .before .before .carrying .ensures) (c .before .number .ensures) (c .if1 .left)
+returns-2 c = carry-refused _ _ (c .before .before .carry-outcome .ensures) (c .before .number .ensures) (c .if1 .left)
 
 pub carry-over-spec : {M : Type 1} → statement M
 carry-over-spec = tie.close
