@@ -63,7 +63,7 @@ pub record CarryAnswer : Type 0 where
 abbrev pub carryAnswer : Outcome → List ℕ → CarryAnswer
 carryAnswer o new = record { outcome = o; new = new }
 
--- how many times longer the new table is
+-- the new table is so many times as long as the old one
 abbrev pub times : ℕ
 times = 9
 
