@@ -1,7 +1,7 @@
 // The commands of Bind Management (document 01, Commands and codes). "A bind is handled as its eight octets, copied whole": it is read from a payload or a
 // record, compared and stored by value.
+use bind_records::SOURCE;
 use layouts::BIND;
-use layouts::SOURCE;
 use words::BindPart;
 use words::Code;
 ghost use Rattle.words.specs.Basics.{_≡_, _%_, length};
@@ -22,9 +22,9 @@ fn bind_there(binds: &[u8], bind: [u8; 8]) -> bool
 {
     let mut at = 0;
     while BIND <= binds.len() - at {
-        let here = layouts::bind_at(binds, at);
+        let here = bind_records::bind_at(binds, at);
         let free = records::free_at(binds, BIND, at);
-        if !free & layouts::same_bind(here, bind) {
+        if !free & bind_records::same_bind(here, bind) {
             return true;
         }
         at += BIND;
@@ -76,7 +76,7 @@ pub fn remove_binds(binds: &mut [u8], part: BindPart, payload: &[u8]) -> Code
         ≡ coding (size Binds) (removal (partIs part (wanted part (now (payload .entry)))) (table Binds (now (binds .entry))))
         (wipe (partIs part (wanted part (now (payload .entry))))) (now (binds .entry)) ⌝ }
 {
-    let from = layouts::part_start(part);
+    let from = bind_records::part_start(part);
     if from != SOURCE {
         return changing::remove(binds, BIND, from, payload);
     }

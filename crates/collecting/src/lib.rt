@@ -112,10 +112,10 @@ impl Recipients {
         ensures { λ r. ⌜ Taken (leaving except (reached (table Members (now (members .entry))) bind))
             (self .count) (now (list .entry)) (r .count) (now (list .exit)) ⌝ }
     {
-        if layouts::to_group(bind) {
-            return self.take_members(list, members, layouts::bound_group(bind), except);
+        if bind_records::to_group(bind) {
+            return self.take_members(list, members, bind_records::bound_group(bind), except);
         }
-        self.take_unless(list, except, layouts::bind_to(bind))
+        self.take_unless(list, except, bind_records::bind_to(bind))
     }
 
     // .. where the bind at `at` is used and matches the message.
@@ -136,7 +136,7 @@ impl Recipients {
         if !matching::is_match(binds, at, f) {
             return self;
         }
-        self.take_reached(list, members, layouts::bind_at(binds, at), except)
+        self.take_reached(list, members, bind_records::bind_at(binds, at), except)
     }
 
     // Whom the binds reach that match the message.

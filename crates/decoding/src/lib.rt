@@ -124,7 +124,7 @@ pub fn demands(command: Command, payload: &[u8]) -> Asked
 {
     match command {
         Command::AddBind => asking(true, layouts::BIND),
-        Command::RemoveBinds(part) => asking(true, layouts::part_length(part)),
+        Command::RemoveBinds(part) => asking(true, bind_records::part_length(part)),
         Command::CreateGroup => asking(true, length_with_name(command, payload)),
         Command::DeleteGroup => asking(true, layouts::ADDRESS),
         Command::AddToGroup => asking(true, layouts::MEMBER),

@@ -66,24 +66,24 @@ fn group_fits(rec: &[u8]) -> bool
 fn destination_fits(bind: [u8; 8], devices: &[u8], groups: &[u8]) -> bool
     ensures { λ r. ⌜ r ≡ destinationFits (table Devices (now (devices .entry))) (table Groups (now (groups .entry))) bind ⌝ }
 {
-    if layouts::to_group(bind) {
-        return existing::group_exists(groups, layouts::bound_group(bind));
+    if bind_records::to_group(bind) {
+        return existing::group_exists(groups, bind_records::bound_group(bind));
     }
-    let device = layouts::bound_device(bind);
-    let there = existing::unit_exists(devices, device, layouts::bind_unit(bind));
-    let to = layouts::bind_to(bind);
-    there & (to != layouts::bind_from(bind))
+    let device = bind_records::bound_device(bind);
+    let there = existing::unit_exists(devices, device, bind_records::bind_unit(bind));
+    let to = bind_records::bind_to(bind);
+    there & (to != bind_records::bind_from(bind))
 }
 
 // The field rules of Add Bind, and "a bind's octet 1 with top bit 0".
 pub fn bind_fits(bind: [u8; 8], devices: &[u8], groups: &[u8]) -> bool
     ensures { λ r. ⌜ r ≡ bindFits (table Devices (now (devices .entry))) (table Groups (now (groups .entry))) bind ⌝ }
 {
-    let source = layouts::bind_source(bind);
+    let source = bind_records::bind_source(bind);
     let top = octets::flag(source.0);
-    let there = existing::unit_exists(devices, source, layouts::bind_source_unit(bind));
-    let uid = layouts::bind_uid(bind);
-    let unit = layouts::bind_unit(bind);
+    let there = existing::unit_exists(devices, source, bind_records::bind_source_unit(bind));
+    let uid = bind_records::bind_uid(bind);
+    let unit = bind_records::bind_unit(bind);
     let destination = destination_fits(bind, devices, groups);
     (top == 0)
         & there
@@ -109,7 +109,7 @@ pub fn fits(kind: Kind, rec: &[u8], devices: &[u8], groups: &[u8]) -> bool
 {
     match kind {
         Kind::Devices => device_fits(rec),
-        Kind::Binds => bind_fits(layouts::bind_at(rec, 0), devices, groups),
+        Kind::Binds => bind_fits(bind_records::bind_at(rec, 0), devices, groups),
         Kind::Groups => group_fits(rec),
         Kind::Members => member_fits(layouts::member_at(rec, 0), devices, groups),
     }

@@ -1,6 +1,6 @@
 // Delete Group, Add to Group, Remove from Group (document 01, Commands and codes).
+use bind_records::DESTINATION;
 use layouts::BIND;
-use layouts::DESTINATION;
 use layouts::GROUP;
 use layouts::MEMBER;
 use words::Code;

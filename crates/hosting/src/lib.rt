@@ -62,8 +62,8 @@ fn free_binds(binds: &mut [u8], device: DeviceAddress)
     ensures { λ _. ⌜ now (binds .exit) ≡ written (size Binds) (wipe (namesDevice device)) (now (binds .entry)) ⌝ }
 {
     let address = layouts::address_octets(device.0);
-    let source = layouts::part_start(BindPart::Source);
-    let destination = layouts::part_start(BindPart::Destination);
+    let source = bind_records::part_start(BindPart::Source);
+    let destination = bind_records::part_start(BindPart::Destination);
     records::free_matching(binds, BIND, source, &address);
     records::free_matching(binds, BIND, destination, &address);
 }

@@ -1,24 +1,7 @@
-// The records (document 01, Tables): how many octets a record of each table has, how many there may be, and its fields, read and built; those of a device
-// stand in `device_records`, those of an old device in `carrying`. No other crate knows the place of a field.
-mod binds;
+// The records (document 01, Tables): how many octets a record of each table has, how many there may be, and its fields, read and built; those of a bind
+// stand in `bind_records`, those of a device in `device_records`, those of an old device in `carrying`. No other crate knows the place of a field.
 mod members;
 
-pub use binds::DESTINATION;
-pub use binds::SOURCE;
-pub use binds::bind_at;
-pub use binds::bind_from;
-pub use binds::bind_role;
-pub use binds::bind_source;
-pub use binds::bind_source_unit;
-pub use binds::bind_to;
-pub use binds::bind_uid;
-pub use binds::bind_unit;
-pub use binds::bound_device;
-pub use binds::bound_group;
-pub use binds::part_length;
-pub use binds::part_start;
-pub use binds::same_bind;
-pub use binds::to_group;
 pub use members::member_at;
 pub use members::member_device;
 pub use members::member_group;

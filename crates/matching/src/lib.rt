@@ -38,9 +38,9 @@ pub fn member_number(members: &[u8], at: usize) -> u32
 fn bind_matches(f: Fields, bind: [u8; 8]) -> bool
     ensures { λ r. ⌜ r ≡ bindMatches f bind ⌝ }
 {
-    let source = layouts::bind_from(bind) == sender(f);
-    let uid = layouts::bind_uid(bind) == f.uid;
-    let role = layouts::bind_role(bind) == f.interface_type;
+    let source = bind_records::bind_from(bind) == sender(f);
+    let uid = bind_records::bind_uid(bind) == f.uid;
+    let role = bind_records::bind_role(bind) == f.interface_type;
     source & uid & role
 }
 
@@ -50,5 +50,5 @@ pub fn is_match(binds: &[u8], at: usize, f: Fields) -> bool
     ensures { λ r. ⌜ r ≡ passes (bindMatches f) (take (size Binds) (drop at (now (binds .entry)))) ⌝ }
 {
     let free = records::free_at(binds, BIND, at);
-    !free & bind_matches(f, layouts::bind_at(binds, at))
+    !free & bind_matches(f, bind_records::bind_at(binds, at))
 }

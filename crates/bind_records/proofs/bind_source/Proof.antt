@@ -1,7 +1,7 @@
--- `layouts::binds::bind_source` meets its contract.
+-- `bind_records::bind_source` meets its contract.
 use Rattle.words.specs.Basics.{needs}
-use Rattle.layouts.proofs.binds.bind_source.Statement.{statement}
-use Rattle.layouts.proofs.binds.bind_source.Tie as tie
+use Rattle.bind_records.proofs.bind_source.Statement.{statement}
+use Rattle.bind_records.proofs.bind_source.Tie as tie
 
 returns : tie.Need-returns
 returns c = rw (c .word-at .ensures)

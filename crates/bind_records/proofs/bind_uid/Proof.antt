@@ -1,8 +1,8 @@
--- `layouts::binds::bind_uid` meets its contract.
+-- `bind_records::bind_uid` meets its contract.
 use Rattle.words.specs.Basics.{needs}
 use Rattle.rules.specs.Octets.{number}
-use Rattle.layouts.proofs.binds.bind_uid.Statement.{statement}
-use Rattle.layouts.proofs.binds.bind_uid.Tie as tie
+use Rattle.bind_records.proofs.bind_uid.Statement.{statement}
+use Rattle.bind_records.proofs.bind_uid.Tie as tie
 
 returns : tie.Need-returns
 unfolding number

@@ -1,8 +1,8 @@
--- `layouts::binds::bound_group` meets its contract.
+-- `bind_records::bound_group` meets its contract.
 use Rattle.words.specs.Basics.{needs}
 use Rattle.rules.specs.Octets.{number}
-use Rattle.layouts.proofs.binds.bound_group.Statement.{statement}
-use Rattle.layouts.proofs.binds.bound_group.Tie as tie
+use Rattle.bind_records.proofs.bound_group.Statement.{statement}
+use Rattle.bind_records.proofs.bound_group.Tie as tie
 
 returns : tie.Need-returns
 unfolding number

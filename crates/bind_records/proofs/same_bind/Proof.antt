@@ -1,8 +1,8 @@
--- `layouts::binds::same_bind` meets its contract.
+-- `bind_records::same_bind` meets its contract.
 use Rattle.words.specs.Basics.{needs}
 use Rattle.rules.specs.Tables.{matches}
-use Rattle.layouts.proofs.binds.same_bind.Statement.{statement}
-use Rattle.layouts.proofs.binds.same_bind.Tie as tie
+use Rattle.bind_records.proofs.same_bind.Statement.{statement}
+use Rattle.bind_records.proofs.same_bind.Tie as tie
 
 returns : tie.Need-returns
 unfolding matches

@@ -1,8 +1,8 @@
--- `layouts::binds::bound_device` meets its contract.
+-- `bind_records::bound_device` meets its contract.
 use Rattle.words.specs.Basics.{needs}
 use Rattle.rules.specs.Octets.{number}
-use Rattle.layouts.proofs.binds.bound_device.Statement.{statement}
-use Rattle.layouts.proofs.binds.bound_device.Tie as tie
+use Rattle.bind_records.proofs.bound_device.Statement.{statement}
+use Rattle.bind_records.proofs.bound_device.Tie as tie
 
 returns : tie.Need-returns
 unfolding number

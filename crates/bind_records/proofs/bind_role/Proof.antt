@@ -1,8 +1,8 @@
--- `layouts::binds::bind_role` meets its contract.
+-- `bind_records::bind_role` meets its contract.
 use Rattle.words.specs.Basics.{needs}
 use Rattle.rules.specs.Octets.{flag}
-use Rattle.layouts.proofs.binds.bind_role.Statement.{statement}
-use Rattle.layouts.proofs.binds.bind_role.Tie as tie
+use Rattle.bind_records.proofs.bind_role.Statement.{statement}
+use Rattle.bind_records.proofs.bind_role.Tie as tie
 
 returns : tie.Need-returns
 unfolding flag

@@ -1,9 +1,9 @@
--- `layouts::binds::to_group` meets its contract.
+-- `bind_records::to_group` meets its contract.
 use Rattle.words.specs.Basics.{needs}
 use Rattle.rules.specs.Layout.{toGroup}
 use Rattle.rules.specs.Octets.{flag}
-use Rattle.layouts.proofs.binds.to_group.Statement.{statement}
-use Rattle.layouts.proofs.binds.to_group.Tie as tie
+use Rattle.bind_records.proofs.to_group.Statement.{statement}
+use Rattle.bind_records.proofs.to_group.Tie as tie
 
 returns : tie.Need-returns
 unfolding toGroup flag

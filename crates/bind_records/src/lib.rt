@@ -1,6 +1,6 @@
 // A bind is handled as its eight octets, copied whole (document 01, Tables): source device and unit, the destination's interface, destination and unit.
-use crate::ADDRESS;
-use crate::BIND;
+use layouts::ADDRESS;
+use layouts::BIND;
 use words::BindPart;
 use words::DeviceAddress;
 use words::Fields;
@@ -49,7 +49,7 @@ pub fn bind_source_unit(bind: [u8; 8]) -> u8
 pub fn bind_from(bind: [u8; 8]) -> u32
     ensures { λ r. ⌜ r ≡ bindFrom bind ⌝ }
 {
-    crate::unit_at(&bind, SOURCE)
+    layouts::unit_at(&bind, SOURCE)
 }
 
 pub fn bind_role(bind: [u8; 8]) -> u16
@@ -92,7 +92,7 @@ pub fn bind_unit(bind: [u8; 8]) -> u8
 pub fn bind_to(bind: [u8; 8]) -> u32
     ensures { λ r. ⌜ r ≡ bindTo bind ⌝ }
 {
-    crate::unit_at(&bind, DESTINATION)
+    layouts::unit_at(&bind, DESTINATION)
 }
 
 // Where a part of a bind begins, and how many octets it has.

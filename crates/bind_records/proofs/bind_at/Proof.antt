@@ -1,8 +1,8 @@
--- `layouts::bind_at` meets its contract. The record is copied whole.
+-- `bind_records::bind_at` meets its contract. The record is copied whole.
 use Rattle.words.specs.Basics.{refl, needs}
 use Rattle.layouts.proofs.Copied.{copy-fits, copied}
-use Rattle.layouts.proofs.binds.bind_at.Statement.{statement}
-use Rattle.layouts.proofs.binds.bind_at.Tie as tie
+use Rattle.bind_records.proofs.bind_at.Statement.{statement}
+use Rattle.bind_records.proofs.bind_at.Tie as tie
 
 put-requires : tie.Need-put-requires
 put-requires c κs = copy-fits 8 _ _ (c .before .before .before .pre) (c .record-at .ensures)
