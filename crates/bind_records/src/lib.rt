@@ -1,4 +1,5 @@
-// A bind is handled as its eight octets, copied whole (document 01, Tables): source device and unit, the destination's interface, destination and unit.
+// A bind's record (document 01, Tables), handled as its eight octets, copied whole: source device and unit, the destination's interface, destination and
+// unit. Where it says any device, any unit or any interface: document 000, 6.2.1. No other crate knows the place of a bind's field.
 use layouts::ADDRESS;
 use layouts::BIND;
 use words::BindPart;
@@ -9,7 +10,7 @@ ghost use Rattle.words.specs.Basics.{_≡_, _+_, _≤_, length, take, drop};
 ghost use Rattle.rules.specs.Types.{Binds};
 ghost use Rattle.rules.specs.Tables.{matches};
 ghost use Rattle.rules.specs.Layout.{size, partStart, partLength, bindSource, bindSourceUnit, bindFrom, bindRole, bindUid};
-ghost use Rattle.rules.specs.Layout.{toGroup, boundGroup, boundDevice, bindUnit, bindTo};
+ghost use Rattle.rules.specs.Layout.{fromAnyDevice, fromAnyUnit, atAnyInterface, toGroup, boundGroup, boundDevice, bindUnit, bindTo};
 
 // Where source, interface and destination stand.
 pub const SOURCE: usize = 0;
@@ -62,6 +63,26 @@ pub fn bind_uid(bind: [u8; 8]) -> u16
     ensures { λ r. ⌜ r ≡ bindUid bind ⌝ }
 {
     octets::number(octets::word_at(&bind, INTERFACE))
+}
+
+// Does the bind say any device, any unit, any interface?
+pub fn from_any_device(bind: [u8; 8]) -> bool
+    ensures { λ r. ⌜ r ≡ fromAnyDevice bind ⌝ }
+{
+    let source = bind_source(bind);
+    source.0 == DeviceAddress::ANY.0
+}
+
+pub fn from_any_unit(bind: [u8; 8]) -> bool
+    ensures { λ r. ⌜ r ≡ fromAnyUnit bind ⌝ }
+{
+    bind_source_unit(bind) == DeviceAddress::ANY_UNIT
+}
+
+pub fn at_any_interface(bind: [u8; 8]) -> bool
+    ensures { λ r. ⌜ r ≡ atAnyInterface bind ⌝ }
+{
+    bind_uid(bind) == Fields::ANY_INTERFACE
 }
 
 // A bind to a group has the flag of octet 6.

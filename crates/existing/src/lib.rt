@@ -10,7 +10,7 @@ ghost use Rattle.rules.specs.Lists.{any};
 ghost use Rattle.rules.specs.Tables.{records, used, addressed};
 ghost use Rattle.rules.specs.Layout.{size};
 ghost use Rattle.rules.specs.Frame.{table};
-ghost use Rattle.rules.specs.Exists.{admitted, hasUnit, unitExists, hasRights, groupExists};
+ghost use Rattle.rules.specs.Exists.{admitted, hasUnit, unitExists, deviceExists, hasRights, groupExists};
 ghost use Rattle.records.specs.Search.{passes};
 
 // Does a record of the table begin with this address?
@@ -59,6 +59,16 @@ pub fn unit_exists(devices: &[u8], device: DeviceAddress, unit: u8) -> bool
         return unit == 0;
     }
     has_unit(devices, device, unit)
+}
+
+// Does the device exist? The concentrator does, and each that is admitted.
+pub fn device_exists(devices: &[u8], device: DeviceAddress) -> bool
+    ensures { λ r. ⌜ r ≡ deviceExists (table Devices (now (devices .entry))) device ⌝ }
+{
+    if device.0 == DeviceAddress::CONCENTRATOR.0 {
+        return true;
+    }
+    is_admitted(devices, device)
 }
 
 // May the device give commands?

@@ -1,16 +1,18 @@
 // When the fields of a record are in range (document 01, Tables): the rules of a table that is sound, and those of Add Bind and Add to Group.
+mod binds;
+
+pub use binds::bind_fits;
 use device_records::RIGHTS;
 use device_records::UNITS;
 use device_records::ZERO;
 use words::DeviceAddress;
-use words::Fields;
 use words::Kind;
 ghost use Rattle.words.specs.Basics.{_≡_, _+_, _<_, _≤_, eqb, length, drop};
 ghost use Rattle.rules.specs.Types.{Devices, Groups};
 ghost use Rattle.rules.specs.Lists.{all};
 ghost use Rattle.rules.specs.Layout.{size, unitsLength, namePadding};
 ghost use Rattle.rules.specs.Frame.{table};
-ghost use Rattle.rules.specs.Sound.{addressFits, deviceInRange, deviceFits, groupFits, destinationFits, bindFits, memberFits, fits};
+ghost use Rattle.rules.specs.Sound.{addressFits, deviceInRange, deviceFits, groupFits, memberFits, fits};
 
 // Is this an address that a device or a group may have?
 pub fn address_fits(address: u16) -> bool
@@ -60,36 +62,6 @@ fn group_fits(rec: &[u8]) -> bool
     let address = address_fits(octets::word_at(rec, 0));
     let padding = padded(rec);
     address & (rec[layouts::NAME_LENGTH] <= layouts::LONGEST_NAME) & padding
-}
-
-// Is a bind's destination a group that exists, or a unit that exists and is not the source unit itself?
-fn destination_fits(bind: [u8; 8], devices: &[u8], groups: &[u8]) -> bool
-    ensures { λ r. ⌜ r ≡ destinationFits (table Devices (now (devices .entry))) (table Groups (now (groups .entry))) bind ⌝ }
-{
-    if bind_records::to_group(bind) {
-        return existing::group_exists(groups, bind_records::bound_group(bind));
-    }
-    let device = bind_records::bound_device(bind);
-    let there = existing::unit_exists(devices, device, bind_records::bind_unit(bind));
-    let to = bind_records::bind_to(bind);
-    there & (to != bind_records::bind_from(bind))
-}
-
-// The field rules of Add Bind, and "a bind's octet 1 with top bit 0".
-pub fn bind_fits(bind: [u8; 8], devices: &[u8], groups: &[u8]) -> bool
-    ensures { λ r. ⌜ r ≡ bindFits (table Devices (now (devices .entry))) (table Groups (now (groups .entry))) bind ⌝ }
-{
-    let source = bind_records::bind_source(bind);
-    let top = octets::flag(source.0);
-    let there = existing::unit_exists(devices, source, bind_records::bind_source_unit(bind));
-    let uid = bind_records::bind_uid(bind);
-    let unit = bind_records::bind_unit(bind);
-    let destination = destination_fits(bind, devices, groups);
-    (top == 0)
-        & there
-        & (uid != Fields::ANY_INTERFACE)
-        & (unit != DeviceAddress::ANY_UNIT)
-        & destination
 }
 
 // "each device and unit named exists; each group named exists"

@@ -61,11 +61,11 @@ fn free_binds(binds: &mut [u8], device: DeviceAddress)
     requires { ⌜ length (now binds) % size Binds ≡ 0 ⌝ }
     ensures { λ _. ⌜ now (binds .exit) ≡ written (size Binds) (wipe (namesDevice device)) (now (binds .entry)) ⌝ }
 {
-    let address = layouts::address_octets(device.0);
+    let named = layouts::address_octets(device.0);
     let source = bind_records::part_start(BindPart::Source);
     let destination = bind_records::part_start(BindPart::Destination);
-    records::free_matching(binds, BIND, source, &address);
-    records::free_matching(binds, BIND, destination, &address);
+    records::free_matching(binds, BIND, source, &named);
+    records::free_matching(binds, BIND, destination, &named);
 }
 
 // "Release takes the device, its members and all binds that name it". No group goes with a device.

@@ -34,14 +34,19 @@ pub fn member_number(members: &[u8], at: usize) -> u32
     layouts::unit_number(layouts::member_device(member), layouts::member_unit(member))
 }
 
-// Does the bind match the message? Its source device, source unit, UID and interface type must equal the message's.
+// Does the bind match the message? Source device, source unit and UID are equal, or the bind says any; the interface type is equal.
 fn bind_matches(f: Fields, bind: [u8; 8]) -> bool
     ensures { λ r. ⌜ r ≡ bindMatches f bind ⌝ }
 {
-    let source = bind_records::bind_from(bind) == sender(f);
-    let uid = bind_records::bind_uid(bind) == f.uid;
+    let any_device = bind_records::from_any_device(bind);
+    let any_unit = bind_records::from_any_unit(bind);
+    let any_interface = bind_records::at_any_interface(bind);
+    let source = bind_records::bind_source(bind);
+    let device = any_device | (source.0 == f.source.0);
+    let unit = any_unit | (bind_records::bind_source_unit(bind) == f.source_unit);
+    let uid = any_interface | (bind_records::bind_uid(bind) == f.uid);
     let role = bind_records::bind_role(bind) == f.interface_type;
-    source & uid & role
+    device & unit & uid & role
 }
 
 // Is the record at `at` used, and does it match the message?

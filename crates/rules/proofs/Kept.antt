@@ -4,11 +4,11 @@ use Rattle.rules.specs.Types.{DeviceAddress, GroupAddress, Kind, Devices
 use Rattle.rules.specs.Lists.{any, all, _&_}
 use Rattle.rules.specs.Octets.{octetString}
 use Rattle.rules.specs.Tables.{Rec, records, used, addressed, Change, none, wipe, change}
-use Rattle.rules.specs.Layout.{size, most, key, bindSource, bindSourceUnit, bindFrom, toGroup, boundGroup, boundDevice, bindUnit, bindTo}
+use Rattle.rules.specs.Layout.{size, most, key, bindSource, bindSourceUnit, bindFrom, fromAnyDevice, fromAnyUnit, toGroup, boundGroup, boundDevice, bindUnit, bindTo}
 use Rattle.rules.specs.Layout.{memberGroup, memberDevice, memberUnit}
 use Rattle.rules.specs.Frame.{Lent, lentOf, tables, Effect, nothing, changed}
-use Rattle.rules.specs.Exists.{hasUnit, unitExists, groupExists}
-use Rattle.rules.specs.Sound.{wholeRecords, destinationFits, bindFits, memberFits, fits, distinct, soundTable, sound}
+use Rattle.rules.specs.Exists.{admitted, hasUnit, unitExists, deviceExists, groupExists}
+use Rattle.rules.specs.Sound.{wholeRecords, sourceFits, destinationFits, bindFits, memberFits, fits, distinct, soundTable, sound}
 use Rattle.rules.proofs.Lists.{split, join}
 use Rattle.rules.proofs.Frames.{shapes, every-at, every-of, lent-changed}
 use Rattle.rules.proofs.Words.{shaped}
@@ -129,12 +129,32 @@ unit-kept c ds d u f s h = step (eqb (d .0) 0) h
     step true h = h
     step false h = any-change c ds (hasUnit d u) f (λ r e. s r (split e .0)) h
 
+pub device-kept : (c : Change) (ds : List Rec) (d : DeviceAddress) → Storable c ds → ((r : Rec) → addressed (d .0) r ≡ true → spares c r ≡ true)
+    → deviceExists ds d ≡ true → deviceExists (change c ds) d ≡ true
+unfolding deviceExists admitted
+device-kept c ds d f s h = step (eqb (d .0) 0) h
+  where
+    step : (b : Bool) → cond b true (any (addressed (d .0)) (used ds)) ≡ true → cond b true (any (addressed (d .0)) (used (change c ds))) ≡ true
+    step true h = refl
+    step false h = any-change c ds (addressed (d .0)) f s h
+
 pub group-kept : (c : Change) (gs : List Rec) (g : GroupAddress) → Storable c gs → ((r : Rec) → addressed (g .0) r ≡ true → spares c r ≡ true)
     → groupExists gs g ≡ true → groupExists (change c gs) g ≡ true
 unfolding groupExists
 group-kept c gs g f s h = any-change c gs (addressed (g .0)) f s h
 
 module _ (cd cg : Change) (ds gs : List Rec) (fd : Storable cd ds) (fg : Storable cg gs) where
+  source-kept : (b : Rec) → ((r : Rec) → addressed (bindSource b .0) r ≡ true → spares cd r ≡ true)
+      → sourceFits ds b ≡ true → sourceFits (change cd ds) b ≡ true
+  unfolding sourceFits
+  source-kept b src h = step (fromAnyDevice b) (fromAnyUnit b) h
+    where
+      step : (v w : Bool) → cond v true (cond w (deviceExists ds (bindSource b)) (unitExists ds (bindSource b) (bindSourceUnit b))) ≡ true
+          → cond v true (cond w (deviceExists (change cd ds) (bindSource b)) (unitExists (change cd ds) (bindSource b) (bindSourceUnit b))) ≡ true
+      step true w h = refl
+      step false true h = device-kept cd ds (bindSource b) fd src h
+      step false false h = unit-kept cd ds (bindSource b) (bindSourceUnit b) fd src h
+
   pub bind-kept : (b : Rec) → ((r : Rec) → addressed (bindSource b .0) r ≡ true → spares cd r ≡ true)
       → (toGroup b ≡ false → (r : Rec) → addressed (boundDevice b .0) r ≡ true → spares cd r ≡ true)
       → (toGroup b ≡ true → (r : Rec) → addressed (boundGroup b .0) r ≡ true → spares cg r ≡ true)
@@ -144,8 +164,7 @@ module _ (cd cg : Change) (ds gs : List Rec) (fd : Storable cd ds) (fg : Storabl
       let a = split h in
       let c = split a.0 in
       let d = split c.0 in
-      let e = split d.0 in
-      join (join (join (join e.0 (unit-kept cd ds (bindSource b) (bindSourceUnit b) fd src e.1)) d.1) c.1) (end (toGroup b) refl a.1)
+      join (join (join d.0 (source-kept b src d.1)) c.1) (end (toGroup b) refl a.1)
     where
       end : (w : Bool) → toGroup b ≡ w
           → cond w (groupExists gs (boundGroup b)) (unitExists ds (boundDevice b) (bindUnit b) & not (eqb (bindTo b) (bindFrom b))) ≡ true

@@ -36,6 +36,7 @@ pub mod RowsOfGroups
 pub mod RowsOfCommands
 pub mod RowsOfCalls
 pub mod RowsOfUnits
+pub mod RowsOfScenes
 pub mod Rows
 pub mod Worked
 pub mod NotVacuous

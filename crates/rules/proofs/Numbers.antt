@@ -1,22 +1,23 @@
 -- What is sent as octets, told in numbers: the runs that a removal looks for, the records that an addition stores, and the binds that a message matches.
 -- The tables compare octets and fields, the history numbers; on octets these are the same.
 use native.Mathlib.Numerals.{add-one}
-use Rattle.words.specs.Basics.{_≡_, refl, sym, ap, _∙_, Bool, true, _&&_, List, [], _∷_, _++_, ℕ, suc, _+_, _*_, _/_, _%_, _<_, _≤_, arith, eqb}
-use Rattle.words.specs.Basics.{length, drop, drop-cons, drop-drop, drop-of-length-le, eq-eqb, eqb-true}
-use Rattle.words.specs.Names.{group}
+use native.Mathlib.Nat.{mul-add-div-right, mul-add-mod-self-right, div-eq-of-lt, mod-eq-of-lt}
+use Rattle.words.specs.Basics.{_≡_, refl, sym, ap, _∙_, Bool, true, false, cond, _&&_, _||_, List, [], _∷_, _++_, ℕ, suc, _+_, _*_, _/_, _%_, _<_, _≤_, arith}
+use Rattle.words.specs.Basics.{eqb, length, drop, drop-cons, drop-drop, drop-of-length-le, eq-eqb, eqb-true}
+use Rattle.words.specs.Names.{group, anyDevice, anyUnit, anyInterface}
 use Rattle.words.specs.declared.BindPart.the-variants.{Whole, Source, SourceUnit, Destination, DestinationUnit}
 use Rattle.rules.specs.Types.{BindPart, Binds, Members}
 use Rattle.rules.specs.Lists.{_&_}
 use Rattle.rules.specs.Octets.{octet, word, octets, octetString, flag, number, joined, ignoreTop, starts}
 use Rattle.rules.specs.Tables.{Rec, matches}
-use Rattle.rules.specs.Layout.{size, partIs, partLength, memberRecord}
-use Rattle.rules.specs.Units.{unitNumber, unitAt}
+use Rattle.rules.specs.Layout.{size, partIs, partLength, fromAnyDevice, fromAnyUnit, atAnyInterface, memberRecord}
+use Rattle.rules.specs.Units.{unitNumber}
 use Rattle.rules.specs.Message.{fields, sender}
 use Rattle.rules.specs.Recipients.{bindMatches}
 use Rattle.rules.specs.Payloads.{bindOf, wanted, memberOf, groupNamed}
-use Rattle.rules.specs.History.{bindSaid, bindNamed, groupSaid, memberSaid, memberNamed, madeFor}
-use Rattle.rules.proofs.Lists.{and-parts, and-true, and-assoc, same-truth}
-use Rattle.rules.proofs.Words.{shaped, shaped-length, shaped-octets, octet-small, matches-word, octets-below, word-below}
+use Rattle.rules.specs.History.{bindSaid, bindNamed, groupSaid, memberSaid, memberNamed, filled, sourceSaid, interfaceSaid, madeFor}
+use Rattle.rules.proofs.Lists.{and-parts, and-true, and-false, and-assoc, same-truth}
+use Rattle.rules.proofs.Words.{shaped, shaped-length, shaped-octets, octet-small, matches-word}
 
 -- A run in parts
 
@@ -173,43 +174,69 @@ module _ (p : List ℕ) (small : octetString p ≡ true) where
 
 -- The binds that a message matches
 
--- a unit is one number, and an interface with its role is one
-one-number : (a b c d : ℕ) → b ≤ 255 → d ≤ 255 → (eqb a c && eqb b d) ≡ eqb (a * 256 + b) (c * 256 + d)
-one-number a b c d k l = same-truth _ _ forth back
+-- two numbers as one, the second below k: so a unit is one number, and an interface with its role
+
+one-first : (k a b : ℕ) → b < k → (a * k + b) / k ≡ a
+one-first k a b l = let p : 0 < k = omega arith in rw (mul-add-div-right p a b, div-eq-of-lt l) (omega arith)
+
+one-second : (k a b : ℕ) → b < k → (a * k + b) % k ≡ b
+one-second k a b l = rw (mul-add-mod-self-right a k b, mod-eq-of-lt l)
+
+one-number : (k a b c d : ℕ) → b < k → d < k → (eqb a c && eqb b d) ≡ eqb (a * k + b) (c * k + d)
+one-number k a b c d l n = same-truth _ _ forth back
   where
-    forth : (eqb a c && eqb b d) ≡ true → eqb (a * 256 + b) (c * 256 + d) ≡ true
+    forth : (eqb a c && eqb b d) ≡ true → eqb (a * k + b) (c * k + d) ≡ true
     forth e =
         let x = and-parts (eqb a c) (eqb b d) e in
-        let y = eqb-true a c x.0 in
-        let z = eqb-true b d x.1 in
-        eq-eqb (a * 256 + b) (c * 256 + d) (omega arith)
+        eq-eqb (a * k + b) (c * k + d) (rw (eqb-true a c x.0, eqb-true b d x.1))
 
-    back : eqb (a * 256 + b) (c * 256 + d) ≡ true → (eqb a c && eqb b d) ≡ true
-    back e = let x = eqb-true (a * 256 + b) (c * 256 + d) e in rw (eq-eqb a c (omega arith), eq-eqb b d (omega arith))
-
-flag-and-number : (v w : ℕ) → v < 65536 → w < 65536 → (eqb (number v) (number w) && eqb (flag v) (flag w)) ≡ eqb v (joined (flag w) (number w))
-unfolding number flag joined
-flag-and-number v w k l = same-truth _ _ forth back
-  where
-    forth : (eqb (v % 32768) (w % 32768) && eqb (v / 32768 % 2) (w / 32768 % 2)) ≡ true → eqb v (w / 32768 % 2 * 32768 + w % 32768) ≡ true
-    forth e =
-        let x = and-parts (eqb (v % 32768) (w % 32768)) (eqb (v / 32768 % 2) (w / 32768 % 2)) e in
-        let y = eqb-true (v % 32768) (w % 32768) x.0 in
-        let z = eqb-true (v / 32768 % 2) (w / 32768 % 2) x.1 in
-        eq-eqb v (w / 32768 % 2 * 32768 + w % 32768) (omega arith)
-
-    back : eqb v (w / 32768 % 2 * 32768 + w % 32768) ≡ true → (eqb (v % 32768) (w % 32768) && eqb (v / 32768 % 2) (w / 32768 % 2)) ≡ true
+    back : eqb (a * k + b) (c * k + d) ≡ true → (eqb a c && eqb b d) ≡ true
     back e =
-        let x = eqb-true v (w / 32768 % 2 * 32768 + w % 32768) e in
-        rw (eq-eqb (v % 32768) (w % 32768) (omega arith), eq-eqb (v / 32768 % 2) (w / 32768 % 2) (omega arith))
+        let x = eqb-true (a * k + b) (c * k + d) e in
+        let y : a ≡ c = sym (one-first k a b l) ∙ ap (λ z. z / k) x ∙ one-first k c d n in
+        let z : b ≡ d = sym (one-second k a b l) ∙ ap (λ z. z % k) x ∙ one-second k c d n in
+        rw (eq-eqb a c y, eq-eqb b d z)
+
+-- equal or any is equal where it is filled in
+
+filled-equal : (anyOne said own : ℕ) → (eqb said anyOne || eqb said own) ≡ eqb (filled anyOne said own) own
+unfolding filled
+filled-equal anyOne said own = step (eqb said anyOne)
+  where
+    step : (w : Bool) → (w || eqb said own) ≡ eqb (cond w own said) own
+    step true = sym (eq-eqb own own refl)
+    step false = refl
+
+filled-below : (k anyOne said own : ℕ) → said < k → own < k → filled anyOne said own < k
+unfolding filled
+filled-below k anyOne said own l n = step (eqb said anyOne)
+  where
+    step : (w : Bool) → cond w own said < k
+    step true = n
+    step false = l
+
+-- source device, source unit, UID and role, two and two
+two-and-two : (a b c d : Bool) → (((a && b) && c) && d) ≡ ((a && b) && (d && c))
+two-and-two true true true d = sym (and-true d)
+two-and-two true true false d = sym (and-false d)
+two-and-two true false c d = refl
+two-and-two false b c d = refl
 
 pub made-for : (m : List ℕ) → octetString m ≡ true → (b : Rec) → shaped (size Binds) b ≡ true → bindMatches (fields m) b ≡ madeFor (fields m) b
-unfolding bindMatches madeFor fields sender unitNumber unitAt _&_
+unfolding bindMatches fromAnyDevice fromAnyUnit atAnyInterface madeFor sourceSaid interfaceSaid fields sender unitNumber joined number _&_
 made-for m o b s =
     let t = shaped-octets 8 b s in
+    let d : ℕ = filled (anyDevice .0) (word 0 b) (word 0 m % 32768) in
+    let u : ℕ = filled anyUnit (octet 2 b) (octet 2 m) in
+    let i : ℕ = filled anyInterface (word 3 b % 32768) (word 10 m % 32768) in
+    let x = octet-small b 2 t in
+    let y = octet-small m 2 o in
     rw (
-      ← one-number (word 0 b) (octet 2 b) (number (word 0 m)) (octet 2 m) (octet-small b 2 t) (octet-small m 2 o),
-      ← flag-and-number (word 3 b) (word 10 m) (word-below 8 3 b s) (octets-below m 10 o),
+      filled-equal (anyDevice .0) (word 0 b) (word 0 m % 32768),
+      filled-equal anyUnit (octet 2 b) (octet 2 m),
+      filled-equal anyInterface (word 3 b % 32768) (word 10 m % 32768),
+      ← one-number 256 d u (word 0 m % 32768) (octet 2 m) (filled-below 256 anyUnit (octet 2 b) (octet 2 m) (omega arith) (omega arith)) (omega arith),
+      ← one-number 32768 (flag (word 3 b)) i (flag (word 10 m)) (word 10 m % 32768)
+          (filled-below 32768 anyInterface (word 3 b % 32768) (word 10 m % 32768) (omega arith) (omega arith)) (omega arith),
     )
-    (sym (and-assoc (eqb (word 0 b) (number (word 0 m)) && eqb (octet 2 b) (octet 2 m)) (eqb (number (word 3 b)) (number (word 10 m)))
-    (eqb (flag (word 3 b)) (flag (word 10 m)))))
+    (two-and-two (eqb d (word 0 m % 32768)) (eqb u (octet 2 m)) (eqb i (word 10 m % 32768)) (eqb (flag (word 3 b)) (flag (word 10 m))))

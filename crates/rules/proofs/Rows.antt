@@ -19,6 +19,7 @@ use Rattle.rules.proofs.RowsOfGroups as groups
 use Rattle.rules.proofs.RowsOfCommands as commands
 use Rattle.rules.proofs.RowsOfCalls as calls
 use Rattle.rules.proofs.RowsOfUnits as units
+use Rattle.rules.proofs.RowsOfScenes as scenes
 use Rattle.rules.proofs.Samples.{Row, row, AsTold, run, lending, filled, device-table, D3, D4, D5, named, threeMembers, holding, three-one, four-one}
 use Rattle.rules.proofs.Samples.{to-group-one, curtains, bindManagement, letter, request, Sent, told, answerTo, reply}
 
@@ -146,6 +147,13 @@ pub record AllRows : Type 0 where
   pub sets-of-a-run : AsTold octetsOnly units.sets-of-a-run
   pub carried-over : AsTold units.carryOf units.carried-over
   pub not-carried : AsTold units.carryOf units.not-carried
+  pub any-matches : AsTold answerTo scenes.any-matches
+  pub next-to-any : AsTold answerTo scenes.next-to-any
+  pub scene-recipients : AsTold answerTo scenes.scene-recipients
+  pub add-any : AsTold answerTo scenes.add-any
+  pub remove-any : AsTold answerTo scenes.remove-any
+  pub release-any : AsTold calls.releaseOf scenes.release-any
+  pub unsound-any : AsTold answerTo scenes.unsound-any
 
 pub as-told : AllRows
 unfolding whole readBack
@@ -189,4 +197,11 @@ as-told = record {
   sets-of-a-run = refl;
   carried-over = refl;
   not-carried = refl;
+  any-matches = refl;
+  next-to-any = refl;
+  scene-recipients = refl;
+  add-any = refl;
+  remove-any = refl;
+  release-any = refl;
+  unsound-any = refl;
 }

@@ -23,10 +23,9 @@ add-bind =
     map stores
     (0x00_03_01_02_00_00_04_02 ∷ 0x00_03_01_7F_FE_00_04_02 ∷ 0x00_03_01_00_00_00_04_02 ∷ 0x00_03_01_82_00_80_01_FE ∷ 0x00_00_00_82_00_00_04_02
     ∷ 0x00_03_01_82_00_00_00_00 ∷ 0x00_03_01_82_00_00_03_02 ∷ 0x00_01_01_82_00_80_01_01 ∷ [])
-    -- no such source, no such unit of it or of the concentrator; UID 0x7FFF, at a server and at a client; destination unit 0xFF
+    -- no such source, no such unit of it or of the concentrator; destination unit 0xFF
     ++ map wrong
-    (0x00_06_00_82_00_00_04_02 ∷ 0x00_03_03_82_00_00_04_02 ∷ 0x00_00_01_82_00_00_04_02 ∷ 0x00_03_01_FF_FF_00_04_02 ∷ 0x00_03_01_7F_FF_00_04_02
-    ∷ 0x00_03_01_82_00_80_01_FF ∷ [])
+    (0x00_06_00_82_00_00_04_02 ∷ 0x00_03_03_82_00_00_04_02 ∷ 0x00_00_01_82_00_00_04_02 ∷ 0x00_03_01_82_00_80_01_FF ∷ [])
     -- no such destination, no such unit of it or of the concentrator; no such group, G'7FFF; the device that has a group's number only
     ++ map wrong
     (0x00_03_01_82_00_00_06_00 ∷ 0x00_03_01_82_00_00_04_03 ∷ 0x00_03_01_82_00_00_00_01 ∷ 0x00_03_01_82_00_80_03_00 ∷ 0x00_03_01_82_00_FF_FF_00

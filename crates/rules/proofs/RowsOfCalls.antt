@@ -94,7 +94,7 @@ copies =
 -- The host's calls
 
 -- the outcome's number, and the tables
-abbrev hosted : ℕ → Lent → HostAnswer
+abbrev pub hosted : ℕ → Lent → HostAnswer
 hosted number L = hostAnswer (readBack number 0) L
 
 -- admit these numbers to these tables
@@ -170,13 +170,13 @@ pub record Releasing : Type 0 where
   pub tables : Lent
   pub address : ℕ
 
-abbrev releasing : Lent → ℕ → Releasing
+abbrev pub releasing : Lent → ℕ → Releasing
 releasing L d = record { tables = L; address = d }
 
 abbrev pub releaseOf : Releasing → HostAnswer
 releaseOf x = release (x .tables) (device (x .address))
 
-abbrev not-released : Lent → ℕ → ℕ → Row Releasing HostAnswer
+abbrev pub not-released : Lent → ℕ → ℕ → Row Releasing HostAnswer
 not-released L d o = row (releasing L d) (hosted o L)
 
 -- binds from and to device 4, from device 3 to device 5, to G'0001 and to D'0001

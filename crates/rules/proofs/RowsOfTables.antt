@@ -83,10 +83,10 @@ devices-and-groups =
 -- "no used record twice in binds or members; each device and unit named exists; each group named exists; each bind meets the field rules of Add Bind"
 abbrev binds-and-members : List Lent
 binds-and-members =
-    -- octet 1 with its top bit; no such source, no such unit of it; UID 0x7FFF; destination unit 0xFF; no such destination, no such group; itself;
+    -- octet 1 with its top bit; no such source, no such unit of it; destination unit 0xFF; no such destination, no such group; itself;
     -- unit 1 of the concentrator, as source and as destination; not free
     map with-bind
-    (0x80_03_01_82_00_00_04_02 ∷ 0x00_06_00_82_00_00_04_02 ∷ 0x00_03_03_82_00_00_04_02 ∷ 0x00_03_01_FF_FF_00_04_02 ∷ 0x00_03_01_82_00_80_01_FF
+    (0x80_03_01_82_00_00_04_02 ∷ 0x00_06_00_82_00_00_04_02 ∷ 0x00_03_03_82_00_00_04_02 ∷ 0x00_03_01_82_00_80_01_FF
     ∷ 0x00_03_01_82_00_00_05_02 ∷ 0x00_03_01_82_00_80_03_00 ∷ 0x00_03_01_82_00_00_03_01 ∷ 0x00_00_01_82_00_00_04_02 ∷ 0x00_03_01_82_00_00_00_01
     ∷ 0xFF_FF_FF_FF_FF_FF_FF_FE ∷ [])
     -- a bind twice

@@ -43,6 +43,10 @@ unfoldable of-layout : ℕ
 unfolding layout.inSet layout.among layout.lowBits layout.upTo layout.deviceRecord layout.partIs layout.toGroup layout.groupRecord layout.memberRecord
 of-layout = 0
 
+unfoldable of-layout-2 : ℕ
+unfolding layout.fromAnyDevice layout.fromAnyUnit layout.atAnyInterface
+of-layout-2 = 0
+
 unfoldable of-frame : ℕ
 unfolding frame.everyTable frame.also frame.nothing frame.changed
 of-frame = 0
@@ -56,7 +60,7 @@ unfolding message.lengthFits message.dataLengthFits message.typeFits message.rea
 of-message-2 = 0
 
 unfoldable of-exists : ℕ
-unfolding exists.admitted exists.hasUnit exists.unitExists exists.mayCommand exists.hasRights exists.groupExists
+unfolding exists.admitted exists.hasUnit exists.unitExists exists.deviceExists exists.mayCommand exists.hasRights exists.groupExists
 of-exists = 0
 
 unfoldable of-sound : ℕ
@@ -64,7 +68,7 @@ unfolding sound.wholeRecords sound.addressFits sound.deviceInRange sound.deviceF
 of-sound = 0
 
 unfoldable of-sound-2 : ℕ
-unfolding sound.memberFits sound.fits sound.distinct sound.soundTable sound.sound
+unfolding sound.sourceFits sound.memberFits sound.fits sound.distinct sound.soundTable sound.sound
 of-sound-2 = 0
 
 unfoldable of-recipients : ℕ
@@ -120,11 +124,11 @@ unfolding history.existing history.memberCount history.freeTable history.freeTab
 of-history-3 = 0
 
 unfoldable of-history-4 : ℕ
-unfolding history.memberSaid history.memberNamed history.madeFor
+unfolding history.memberSaid history.memberNamed history.filled history.sourceSaid history.interfaceSaid history.madeFor
 of-history-4 = 0
 
 unfoldable tables-and-messages : ℕ
-unfolding of-lists of-octets of-units of-tables of-tables-2 of-layout of-frame of-message of-message-2 of-exists of-sound
+unfolding of-lists of-octets of-units of-tables of-tables-2 of-layout of-layout-2 of-frame of-message of-message-2 of-exists of-sound
 tables-and-messages = 0
 
 unfoldable commands-and-calls : ℕ

@@ -1,4 +1,4 @@
--- What exists (document 01, Tables): units, groups, rights.
+-- What exists (document 01, Tables): units, devices, groups, rights.
 use Rattle.words.specs.Basics.{Bool, true, cond, List, ℕ, eqb}
 use Rattle.words.specs.Names.{concentrator}
 use Rattle.rules.specs.Types.{DeviceAddress, GroupAddress}
@@ -17,6 +17,10 @@ hasUnit d u r = addressed (d .0) r & inSet u (deviceUnits r)
 -- "D'0000 is the concentrator: never in the table, unit 0 only, rights 1."
 unfoldable pub unitExists : List Rec → DeviceAddress → ℕ → Bool
 unitExists ds d u = cond (eqb (d .0) (concentrator .0)) (eqb u 0) (any (hasUnit d u) (used ds))
+
+-- the concentrator, or a device that is admitted
+unfoldable pub deviceExists : List Rec → DeviceAddress → Bool
+deviceExists ds d = cond (eqb (d .0) (concentrator .0)) true (admitted ds d)
 
 unfoldable pub mayCommand : DeviceAddress → Rec → Bool
 mayCommand d r = addressed (d .0) r & eqb (deviceRights r) 1

@@ -2,7 +2,7 @@
 -- Nothing here looks into a table, and nothing of what a call does to a table is used to say what it adds or withdraws: a payload is told in numbers here,
 -- where the tables compare octets. A message's fields and command, and the places of a record's fields, are those of condition 2 (docs/DECISIONS.md, 20).
 use Rattle.words.specs.Basics.{_≡_, Bool, true, false, cond, not, _||_, List, [], _∷_, _++_, ℕ, _+_, eqb, length, drop}
-use Rattle.words.specs.Names.{concentrator, device, group, ok, headerLength}
+use Rattle.words.specs.Names.{concentrator, anyDevice, anyUnit, anyInterface, device, group, ok, headerLength}
 use Rattle.words.specs.declared.BindPart.the-variants.{Whole, Source, SourceUnit, Destination, DestinationUnit}
 use Rattle.words.specs.Outcomes.{numberOf}
 use Rattle.words.specs.declared.Decoded.the-variants.{Is, NotServed}
@@ -10,11 +10,11 @@ use Rattle.rules.specs.Types.{DeviceAddress, GroupAddress, Fields, BindA
 use Rattle.rules.specs.Types.{AddToGroup, RemoveFromGroup, GetGroupInfo, Decoded, Kind, Devices, Binds, Groups, Members, Outcome}
 use Rattle.rules.specs.Lists.{count, any, all, keep, has, _&_}
 use Rattle.rules.specs.Octets.{octet, word, octets, number, joined, octetString}
-use Rattle.rules.specs.Units.{rising}
+use Rattle.rules.specs.Units.{unitNumber, rising}
 use Rattle.rules.specs.Tables.{Rec, free?}
 use Rattle.rules.specs.Layout.{size, most, addressLength, unitsLength, inSet, deviceAddress, deviceUnits, deviceRecord}
-use Rattle.rules.specs.Layout.{bindSource, bindSourceUnit, bindFrom, bindInterface, bindDestination, bindUnit, toGroup, boundGroup, boundDevice, bindTo}
-use Rattle.rules.specs.Layout.{memberGroup, memberDevice, memberUnit, memberNumber, memberRecord}
+use Rattle.rules.specs.Layout.{bindSource, bindSourceUnit, bindInterface, bindRole, bindUid, bindDestination, bindUnit, toGroup, boundGroup, boundDevice}
+use Rattle.rules.specs.Layout.{bindTo, memberGroup, memberDevice, memberUnit, memberNumber, memberRecord}
 use Rattle.rules.specs.Frame.{Lent, lentOf, everyTable, also, table}
 use Rattle.rules.specs.Message.{fields, payload, sender, destination, response, lengthFits, dataLengthFits, typeFits}
 use Rattle.rules.specs.Sound.{wholeRecords, sound}
@@ -188,9 +188,22 @@ unfoldable pub reaches : List Rec → ℕ → Rec → Bool
 reaches ms u b =
     cond (toGroup b) (any (λ x. eqb (memberGroup x .0) (boundGroup b .0) & eqb (memberNumber x) u) ms) (eqb (bindTo b) u)
 
--- was the bind made for the sender of a message of these fields, at its interface and role? Each of the two is one number.
+-- a number that a bind says, filled in by the message's own where it is the one for any
+unfoldable pub filled : (anyOne said own : ℕ) → ℕ
+filled anyOne said own = cond (eqb said anyOne) own said
+
+-- the source that a bind says to a message of these fields, and the interface with its role, each filled in and one number
+
+unfoldable pub sourceSaid : Fields → Rec → ℕ
+sourceSaid f b =
+    unitNumber (device (filled (anyDevice .0) (bindSource b .0) (f .source .0))) (filled anyUnit (bindSourceUnit b) (f .«source_unit»))
+
+unfoldable pub interfaceSaid : Fields → Rec → ℕ
+interfaceSaid f b = joined (bindRole b) (filled anyInterface (bindUid b) (f .uid))
+
+-- "matching": so filled in, was the bind made for the sender of the message, and for its interface and role?
 unfoldable pub madeFor : Fields → Rec → Bool
-madeFor f b = eqb (bindFrom b) (sender f) & eqb (bindInterface b) (joined (f .«interface_type») (f .uid))
+madeFor f b = eqb (sourceSaid f b) (sender f) & eqb (interfaceSaid f b) (joined (f .«interface_type») (f .uid))
 
 -- is the unit u linked to that sender?
 unfoldable pub linked : List Event → Fields → ℕ → Bool

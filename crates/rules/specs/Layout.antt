@@ -1,7 +1,7 @@
 -- The records (document 01, Tables; a device's: document 02, request 2): how many octets each has, how many there may be, where its fields stand, and how
 -- it is built from them. No other file knows the place of a field, but for an old device's, which stand in `Carry`.
 use Rattle.words.specs.Basics.{Bool, List, [], _∷_, _++_, ℕ, zero, suc, _+_, _-_, _*_, _/_, _%_, _^_, min, eqb, length, take, drop, replicate}
-use Rattle.words.specs.Names.{device, group, flagSet}
+use Rattle.words.specs.Names.{device, group, flagSet, anyDevice, anyUnit, anyInterface}
 use Rattle.words.specs.declared.BindPart.the-variants.{Whole, Source, SourceUnit, Destination, DestinationUnit}
 use Rattle.rules.specs.Types.{DeviceAddress, GroupAddress, BindPart, Kind, Devices, Binds, Groups, Members}
 use Rattle.rules.specs.Octets.{octet, bit, word, octets, flag, number, joined}
@@ -128,6 +128,17 @@ bindRole b = flag (bindInterface b)
 
 abbrev pub bindUid : Rec → ℕ
 bindUid b = number (bindInterface b)
+
+-- does the bind say any device, any unit, any interface? (document 000, 6.2.1)
+
+unfoldable pub fromAnyDevice : Rec → Bool
+fromAnyDevice b = eqb (bindSource b .0) (anyDevice .0)
+
+unfoldable pub fromAnyUnit : Rec → Bool
+fromAnyUnit b = eqb (bindSourceUnit b) anyUnit
+
+unfoldable pub atAnyInterface : Rec → Bool
+atAnyInterface b = eqb (bindUid b) anyInterface
 
 -- address type and address
 abbrev pub bindDestination : Rec → ℕ

@@ -1,23 +1,24 @@
 -- Recipients (document 01, Recipients): who gets a message of each kind of destination.
-use Rattle.words.specs.Basics.{Bool, cond, List, [], _∷_, map, flatMap, ℕ, eqb}
+use Rattle.words.specs.Basics.{Bool, cond, _||_, List, [], _∷_, map, flatMap, ℕ, eqb}
 use Rattle.words.specs.declared.Destination.{Destination}
 use Rattle.rules.specs.Types.{GroupAddress, Fields, Concentrator, BindAddress, Unit, Group}
 use Rattle.rules.specs.Lists.{keep, _&_}
 use Rattle.rules.specs.Units.{unitNumber, ordered, without}
 use Rattle.rules.specs.Message.{sender}
 use Rattle.rules.specs.Tables.{Rec, used}
-use Rattle.rules.specs.Layout.{bindSource, bindSourceUnit, bindUid, bindRole, toGroup, boundGroup, bindTo, memberNumber, inGroup}
+use Rattle.rules.specs.Layout.{bindSource, fromAnyDevice, bindSourceUnit, fromAnyUnit, bindUid, atAnyInterface, bindRole, toGroup, boundGroup, bindTo}
+use Rattle.rules.specs.Layout.{memberNumber, inGroup}
 
 -- the units of a group's members
 unfoldable pub membersOf : List Rec → GroupAddress → List ℕ
 membersOf ms g = map memberNumber (keep (inGroup g) (used ms))
 
--- does the bind match the request? "binds whose source device, source unit, UID and interface type equal the message's"
+-- "A request matches if each field is equal or the bind says any" (document 02, request 4): source device, source unit, UID; and the interface type is equal
 unfoldable pub bindMatches : Fields → Rec → Bool
 bindMatches f b =
-    eqb (bindSource b .0) (f .source .0)
-    & eqb (bindSourceUnit b) (f .«source_unit»)
-    & eqb (bindUid b) (f .uid)
+    (fromAnyDevice b || eqb (bindSource b .0) (f .source .0))
+    & (fromAnyUnit b || eqb (bindSourceUnit b) (f .«source_unit»))
+    & (atAnyInterface b || eqb (bindUid b) (f .uid))
     & eqb (bindRole b) (f .«interface_type»)
 
 -- "the named unit or the group's members"; the destination unit of a group bind "plays no part in delivery"

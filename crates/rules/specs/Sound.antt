@@ -1,15 +1,15 @@
 -- "Tables are sound if" (document 01, Tables)
 use Rattle.words.specs.Basics.{Bool, true, cond, not, _&&_, _||_, List, [], _∷_, ℕ, _*_, _%_, eqb, leb, length, take}
-use Rattle.words.specs.Names.{lowest, highest, anyUnit, anyInterface}
+use Rattle.words.specs.Names.{lowest, highest, anyUnit}
 use Rattle.rules.specs.Types.{DeviceAddress, Kind, Devices, Binds, Groups, Members}
 use Rattle.rules.specs.Lists.{any, all, _&_}
 use Rattle.rules.specs.Octets.{flag}
 use Rattle.rules.specs.Tables.{Rec, records, free?, used, matches}
 use Rattle.rules.specs.Layout.{size, most, key, inSet, deviceAddress, deviceRights, deviceZero, deviceUnits}
-use Rattle.rules.specs.Layout.{bindSource, bindSourceUnit, bindFrom, bindUid, toGroup, boundGroup, boundDevice, bindUnit, bindTo}
+use Rattle.rules.specs.Layout.{bindSource, bindSourceUnit, bindFrom, fromAnyDevice, fromAnyUnit, toGroup, boundGroup, boundDevice, bindUnit, bindTo}
 use Rattle.rules.specs.Layout.{longestName, groupAddress, nameLength, namePadding, memberGroup, memberDevice, memberUnit}
 use Rattle.rules.specs.Frame.{Lent, lentOf, everyTable, tables}
-use Rattle.rules.specs.Exists.{unitExists, groupExists}
+use Rattle.rules.specs.Exists.{unitExists, deviceExists, groupExists}
 
 -- "each length is a multiple of its record size and within the limit": records of k octets, n at most
 unfoldable pub wholeRecords : ℕ → ℕ → List ℕ → Bool
@@ -31,6 +31,14 @@ deviceFits r = deviceInRange (deviceAddress r) (deviceRights r) (deviceUnits r) 
 unfoldable pub groupFits : Rec → Bool
 groupFits r = addressFits (groupAddress r .0) & leb (nameLength r) longestName & all (λ o. eqb o 0x00) (namePadding r)
 
+-- the source (document 02, request 4): beside any device every unit will do, "a unit written out .. may be 0 to 254" or any; a device written out exists,
+-- and has the unit that is written out beside it
+unfoldable pub sourceFits : List Rec → Rec → Bool
+sourceFits ds b =
+    cond (fromAnyDevice b) true
+    (cond (fromAnyUnit b) (deviceExists ds (bindSource b))
+    (unitExists ds (bindSource b) (bindSourceUnit b)))
+
 -- the destination is a group that exists, or a unit that exists and is not the source unit itself
 unfoldable pub destinationFits : List Rec → List Rec → Rec → Bool
 destinationFits ds gs b =
@@ -41,8 +49,7 @@ destinationFits ds gs b =
 unfoldable pub bindFits : List Rec → List Rec → Rec → Bool
 bindFits ds gs b =
     eqb (flag (bindSource b .0)) 0
-    & unitExists ds (bindSource b) (bindSourceUnit b)
-    & not (eqb (bindUid b) anyInterface)
+    & sourceFits ds b
     & not (eqb (bindUnit b) anyUnit)
     & destinationFits ds gs b
 

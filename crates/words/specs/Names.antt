@@ -46,12 +46,20 @@ lowest = 0x0001
 abbrev pub highest : ℕ
 highest = 0x7FFE
 
--- the highest that a unit may have, and the one that is no unit's
+-- the highest that a unit may have
 abbrev pub highestUnit : ℕ
 highestUnit = 254
 
+-- "any" in a bind, as source device, source unit and interface UID (document 000, 6.2.1): no device, unit or interface has one of these numbers
+
+abbrev pub anyDevice : DeviceAddress
+anyDevice = device 0x7FFF
+
 abbrev pub anyUnit : ℕ
 anyUnit = 0xFF
+
+abbrev pub anyInterface : ℕ
+anyInterface = 0x7FFF
 
 -- the message (document 003, 7): octets before the payload, where the payload begins as the paper counts, and the most that there are
 
@@ -86,10 +94,7 @@ lastType = 0x10
 abbrev pub responseTypes : List ℕ
 responseTypes = 0x03 ∷ 0x05 ∷ 0x08 ∷ 0x0A ∷ 0x0D ∷ 0x10 ∷ []
 
--- interface UIDs (document 000, Table 1), and the one that is no interface's
-
-abbrev pub anyInterface : ℕ
-anyInterface = 0x7FFF
+-- interface UIDs (document 000, Table 1)
 
 abbrev pub bindManagement : ℕ
 bindManagement = 0x0002

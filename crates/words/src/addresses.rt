@@ -1,7 +1,7 @@
 // The special addresses, named once with their type (document 01, Tables).
 use crate::DeviceAddress;
 ghost use mathlib.Core.Path.{_≡_};
-ghost use Rattle.words.specs.Names.{concentrator, bindAddress};
+ghost use Rattle.words.specs.Names.{concentrator, bindAddress, anyDevice};
 
 impl DeviceAddress {
     // D'0000, the concentrator.
@@ -15,8 +15,11 @@ impl DeviceAddress {
 
     pub const HIGHEST: u16 = 0x7FFE;
 
-    // The highest number that a unit may have, and the one that is no unit's.
+    // The highest number that a unit may have.
     pub const HIGHEST_UNIT: u8 = 254;
+
+    // "any" in a bind, as its source device and source unit: no device and no unit has this number.
+    pub const ANY: DeviceAddress = DeviceAddress(0x7FFF);
 
     pub const ANY_UNIT: u8 = 0xFF;
 
@@ -30,5 +33,11 @@ impl DeviceAddress {
         ensures { λ r. ⌜ r ≡ bindAddress ⌝ }
     {
         DeviceAddress::BIND
+    }
+
+    pub fn any() -> Self
+        ensures { λ r. ⌜ r ≡ anyDevice ⌝ }
+    {
+        DeviceAddress::ANY
     }
 }

@@ -1,9 +1,9 @@
--- `fitting::destination_fits` meets its contract. A bind leads to a group or to a unit.
+-- `fitting::binds::destination_fits` meets its contract. A bind leads to a group or to a unit.
 use Rattle.words.specs.Basics.{sym, _∙_, needs}
 use Rattle.rules.specs.Lists.{_&_}
 use Rattle.rules.specs.Sound.{destinationFits}
-use Rattle.fitting.proofs.destination_fits.Statement.{statement}
-use Rattle.fitting.proofs.destination_fits.Tie as tie
+use Rattle.fitting.proofs.binds.destination_fits.Statement.{statement}
+use Rattle.fitting.proofs.binds.destination_fits.Tie as tie
 
 returns : tie.Need-returns
 unfolding destinationFits _&_
