@@ -100,6 +100,16 @@ enum gneissfold_code {
 #define GNEISSFOLD_BIND_UNIT 0xFF
 #define GNEISSFOLD_HIGHEST_UNIT 254
 
+/*
+ * Binds. A request to the bind address goes by a bind where source device, source unit and UID are each equal, or the bind says any there; the
+ * interface type is always compared. Add Bind takes these values as it takes any other; a device written out must exist, and beside it a
+ * unit written out must be one of its units, while beside any device a unit may be 0 to 254. So one bind serves a key in every room.
+ * Removals compare octets: any takes only any. gneissfold_release takes the binds that name the device, and any device names none.
+ */
+#define GNEISSFOLD_ANY_DEVICE 0x7FFF       /* as source device */
+#define GNEISSFOLD_ANY_UNIT 0xFF           /* as source unit */
+#define GNEISSFOLD_ANY_INTERFACE 0x7FFF    /* as UID, behind the interface type */
+
 /* The places of the fields that gneissfold_read writes. */
 enum gneissfold_field {
     GNEISSFOLD_SOURCE,
@@ -158,7 +168,7 @@ uint8_t gneissfold_admit(
     uint16_t address, uint8_t rights, const uint8_t *units);
 
 /*
- * Releases a device, with its members and all binds that name it as source or individual destination.
+ * Releases a device, with its members and all binds that name it as source or individual destination. Binds of any device stay.
  *
  * Lent until the call returns: devices, binds and members, to be changed, and the groups, to be read.
  *

@@ -6,6 +6,7 @@
 //! What C leaves to the caller, that no pointer is null and that nothing lent to be written overlaps, Rust's references say.
 #![no_std]
 
+pub mod any;
 mod calls;
 pub mod code;
 mod fields;
