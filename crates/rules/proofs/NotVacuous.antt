@@ -90,6 +90,28 @@ pub counts-two : memberCount (said (after start calls) (sends info reply list)) 
 unfolding whole calls
 counts-two = condition3 start (meets .free) calls (meets .octets) .counts info reply list (meets .info-octets) (meets .asks) (meets .granted)
 
+-- Further runs, each with a request that goes to one unit
+
+-- what condition 3 asks of these calls, of this request, and that the request goes to u
+pub record MeetsOne (cs : List Call) (m : List ℕ) (u : ℕ) : Type 0 where
+  pub octets : all octetsOnly cs ≡ true
+  pub request : Request (history start cs) m
+  pub exactly : Exactly (history start cs) (fields m) (u ∷ [])
+
+-- u alone is linked, and is not the sender s
+linked-one : (s u : ℕ) → eqb u s ≡ false → (v : ℕ) → (eqb v u || false) ≡ (not (eqb v s) && (eqb u v || false))
+linked-one s u n v = step (eqb v u) refl
+  where
+    step : (w : Bool) → eqb v u ≡ w → (eqb v u || false) ≡ (not (eqb v s) && (eqb u v || false))
+    step true e = rw (eqb-true v u e, n) refl
+    step false e = rw (e, ne-eqb u v (λ z. eqb-false v u e (sym z))) (sym (and-false (not (eqb v s))))
+
+-- then that unit is listed, and nothing else changes
+delivers-one : (cs : List Call) (m : List ℕ) (u : ℕ) → MeetsOne cs m u
+    → message (after start cs) m reply list ≡ answer (Forwarded 1) (after start cs) reply (over (threeOctets u) list)
+unfolding flatMap forwarded unitOctets threeOctets
+delivers-one cs m u w = condition3 start (meets .free) cs (w .octets) .delivered m reply list (u ∷ []) (w .request) (meets .room) (w .exactly)
+
 -- Units with gaps: 3:01 and the valance are admitted, the valance's unit 9 is bound to 3:01, and sends
 
 abbrev with-valance : List Call
@@ -102,30 +124,43 @@ with-valance =
 abbrev from-nine : List ℕ
 from-nine = request (run 3 0x00_06_09) curtains
 
-pub record MeetsWithGaps : Type 0 where
-  pub octets : all octetsOnly with-valance ≡ true
-  pub request : Request (history start with-valance) from-nine
-  pub exactly : Exactly (history start with-valance) (fields from-nine) (0x00_03_01 ∷ [])
-
-linked-one : (u : ℕ) → (eqb u 0x00_03_01 || false) ≡ (not (eqb u 0x00_06_09) && (eqb 0x00_03_01 u || false))
-linked-one u = step (eqb u 0x00_03_01) refl
-  where
-    step : (a : Bool) → eqb u 0x00_03_01 ≡ a → (eqb u 0x00_03_01 || false) ≡ (not (eqb u 0x00_06_09) && (eqb 0x00_03_01 u || false))
-    step true e = rw (eqb-true u 0x00_03_01 e) refl
-    step false e = rw (e, ne-eqb 0x00_03_01 u (λ z. eqb-false u 0x00_03_01 e (sym z))) (sym (and-false (not (eqb u 0x00_06_09))))
-
-pub meets-with-gaps : MeetsWithGaps
+pub meets-with-gaps : MeetsOne with-valance from-nine 0x00_03_01
 unfolding whole
 meets-with-gaps = record {
   octets = refl;
   request = record { octets = refl; length = refl; data-length = refl; type = refl; request = refl; sent = refl; to-binds = refl };
-  exactly = record { order = refl; exact = linked-one };
+  exactly = record { order = refl; exact = linked-one 0x00_06_09 0x00_03_01 refl };
 }
 
 -- the request goes to 3:01
 pub delivers-with-gaps : message (after start with-valance) from-nine reply list
     ≡ answer (Forwarded 1) (after start with-valance) reply (lending 12 (run 3 0x00_03_01))
-unfolding flatMap forwarded over unitOctets threeOctets
-delivers-with-gaps =
-    condition3 start (meets .free) with-valance (meets-with-gaps .octets)
-    .delivered from-nine reply list (0x00_03_01 ∷ []) (meets-with-gaps .request) (meets .room) (meets-with-gaps .exactly)
+unfolding over threeOctets
+delivers-with-gaps = delivers-one with-valance from-nine 0x00_03_01 meets-with-gaps
+
+-- A scene switch: any device, any unit and any interface are bound to 3:01; then the valance is admitted, and its unit 9 sends at an interface that no
+-- bind names
+
+abbrev with-scene : List Call
+with-scene =
+    admits (device 6) 0 valance
+    ∷ sends (letter three-one concentrator 0x01 bindManagement 0x01 (run 8 0x7F_FF_FF_FF_FF_00_03_01)) reply list
+    ∷ admits (device 3) 1 zero-to-two
+    ∷ []
+
+abbrev elsewhere : List ℕ
+elsewhere = request (run 3 0x00_06_09) (run 2 0x81_23)
+
+pub meets-with-any : MeetsOne with-scene elsewhere 0x00_03_01
+unfolding whole
+meets-with-any = record {
+  octets = refl;
+  request = record { octets = refl; length = refl; data-length = refl; type = refl; request = refl; sent = refl; to-binds = refl };
+  exactly = record { order = refl; exact = linked-one 0x00_06_09 0x00_03_01 refl };
+}
+
+-- the request goes to 3:01
+pub delivers-with-any : message (after start with-scene) elsewhere reply list
+    ≡ answer (Forwarded 1) (after start with-scene) reply (lending 12 (run 3 0x00_03_01))
+unfolding over threeOctets
+delivers-with-any = delivers-one with-scene elsewhere 0x00_03_01 meets-with-any
