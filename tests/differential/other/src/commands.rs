@@ -180,7 +180,8 @@ fn add_bind(payload: &[u8], tables: Tables) -> u8 {
 }
 
 /// The five Remove forms: "0x02 if nothing matches, else all matches become
-/// free". The two forms by destination carry octets 6-7, flag included.
+/// free". The two forms by destination carry octets 6-7, flag included. "Remove
+/// compares the stored octets, so any matches only any" ("CR 4").
 fn remove_binds(command: Command, payload: &[u8], binds: &mut [u8]) -> u8 {
     use Command::*;
     let first = word(payload, 0);

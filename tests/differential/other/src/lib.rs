@@ -1,9 +1,9 @@
 //! A second, independent reading of the requirements paper, for tests only.
 //!
 //! It is written straight from the paper and favours obviousness. Section
-//! names in the comments are the paper's; "CR 2" is the change request of that
-//! number. Octet numbers in the comments count from 1, as in the paper; indices
-//! in the code count from 0.
+//! names in the comments are the paper's; "CR 2" and "CR 4" are the change
+//! requests of those numbers. Octet numbers in the comments count from 1, as in
+//! the paper; indices in the code count from 0.
 
 mod carry_over;
 mod commands;
@@ -170,7 +170,8 @@ pub fn release(
     // "Release takes the device, its members and all binds that name it as
     // source or individual destination" ("Commands and codes"). An admitted
     // address has its top bit clear, so octets 6-7 of a bind equal it only if
-    // they are of individual type: G' with the same number stays.
+    // they are of individual type: G' with the same number stays. It is at most
+    // 0x7FFE, so no bind of any device ("CR 4") names it by its source.
     free_where(members, tables::MEMBER, |member| word(member, 2) == address);
     free_where(binds, tables::BIND, |bind| {
         word(bind, 0) == address || word(bind, 5) == address

@@ -1,4 +1,5 @@
-//! The four tables ("Tables"), devices as "CR 2" lays them out.
+//! The four tables ("Tables"), devices as "CR 2" lays them out, and binds with
+//! the special values of "CR 4".
 
 use crate::unit_set::{self, UnitSet, UNIT_SET};
 use crate::{HIGHEST_ADDRESS, NO_UNIT};
@@ -20,8 +21,13 @@ pub const MOST_MEMBERS: usize = 128;
 pub const LONGEST_NAME: usize = 13;
 pub const NAME: usize = 3;
 
-/// UID that no bind may carry ("Add Bind 0x02").
-const NO_UID: u16 = 0x7FFF;
+/// Source device of a bind that says any device ("CR 4"). No device has it as
+/// its address.
+pub const ANY_DEVICE: u16 = 0x7FFF;
+/// Source unit of a bind that says any unit ("CR 4"). No device has it.
+pub const ANY_UNIT: u8 = 0xFF;
+/// UID of a bind that says any interface ("CR 4"), of its interface type alone.
+pub const ANY_INTERFACE: u16 = 0x7FFF;
 
 /// The four tables, lent together.
 pub struct Tables<'a> {
@@ -114,6 +120,11 @@ pub fn unit_exists(devices: &[u8], device: u16, unit: u8) -> bool {
     }
 }
 
+/// Admitted, or D'0000.
+fn device_exists(devices: &[u8], device: u16) -> bool {
+    device == 0 || admitted(devices, device)
+}
+
 /// Rights of a device that exists; the concentrator's are 1.
 pub fn rights(devices: &[u8], device: u16) -> u8 {
     if device == 0 {
@@ -178,11 +189,14 @@ fn bind_holds(devices: &[u8], groups: &[u8], bind: &[u8]) -> bool {
 }
 
 /// The field rules of Add Bind ("Add Bind 0x02"), less "same bind present".
+/// Any UID will do: "Add Bind no longer gives 0x02 for these three values"
+/// ("CR 4"). The destination is the source unit itself "only where both are
+/// written out", and so says equal octets: no destination that exists has a
+/// device or a unit of the special values.
 pub fn bind_fields_hold(devices: &[u8], groups: &[u8], bind: &[u8]) -> bool {
     let destination = word(bind, 5);
     let unit = bind[7];
-    unit_exists(devices, word(bind, 0), bind[2])
-        && number(word(bind, 3)) != NO_UID
+    source_holds(devices, word(bind, 0), bind[2])
         && unit != NO_UNIT
         && if flag(destination) {
             group_exists(groups, number(destination))
@@ -190,6 +204,17 @@ pub fn bind_fields_hold(devices: &[u8], groups: &[u8], bind: &[u8]) -> bool {
             unit_exists(devices, destination, unit)
                 && (destination, unit) != (word(bind, 0), bind[2])
         }
+}
+
+/// What a bind may have as its source ("CR 4"): "a unit written out beside any
+/// device may be 0 to 254", so with any unit every octet will do there. Beside
+/// a device written out, any unit needs that device alone.
+fn source_holds(devices: &[u8], device: u16, unit: u8) -> bool {
+    match (device, unit) {
+        (ANY_DEVICE, _) => true,
+        (_, ANY_UNIT) => device_exists(devices, device),
+        _ => unit_exists(devices, device, unit),
+    }
 }
 
 /// Whether the first `key` octets tell every two used records apart.

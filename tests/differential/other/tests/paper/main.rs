@@ -4,5 +4,6 @@ mod carry_over;
 mod commands;
 mod outcomes;
 mod rows;
+mod scene_switch;
 mod units;
 mod world;
