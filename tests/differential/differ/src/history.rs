@@ -2,9 +2,11 @@
 //! answers alone, never from a table" ("What the promises are measured by").
 
 mod entry;
+mod matching;
 mod standing;
 
 pub use entry::Entry;
+pub use matching::{matches, said};
 pub use standing::{octets, Standing, Unit};
 
 use crate::generate::UnitSet;

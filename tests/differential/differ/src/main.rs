@@ -32,8 +32,9 @@ struct Options {
     counts: bool,
 }
 
-/// From here on every outcome and code must have come up, or the test itself
-/// is at fault.
+/// From here on every outcome and code must have come up, and all that binds with
+/// special values bring about, or the test itself is at fault. Of so many calls in
+/// runs the latter alone is asked: there are outcomes that no run meets.
 const ENOUGH_CALLS: usize = 100_000;
 
 fn options() -> Result<Options, String> {
@@ -122,8 +123,14 @@ fn main() -> ExitCode {
         "no difference: {} calls ({} single, {} runs of {}), {seconds:.1} s",
         tally.calls, options.calls, options.runs, options.length
     );
-    let missing = tally.missing();
-    if options.calls >= ENOUGH_CALLS && !missing.is_empty() {
+    let mut missing = Vec::new();
+    if options.calls >= ENOUGH_CALLS {
+        missing.extend(tally.missing());
+    }
+    if options.calls.max(options.runs * options.length) >= ENOUGH_CALLS {
+        missing.extend(tally.missing_any());
+    }
+    if !missing.is_empty() {
         println!("never came up: {}", missing.join(", "));
         return ExitCode::from(3);
     }

@@ -111,11 +111,13 @@ impl Runs<'_> {
         let ever = history.binds_ever();
         for _ in 0..ASKED.min(ever.len() + 1) {
             let (sender, interface) = match self.rng.pick(&ever) {
-                Some(bind) if self.rng.percent(95) => (
-                    (generate::word(&bind, 0), bind[2]),
-                    generate::word(&bind, 3),
+                Some(bind) if self.rng.percent(90) => {
+                    generate::request_for(self.rng, bind, &standing.devices)
+                }
+                _ => (
+                    self.some_sender(&standing),
+                    0x8000 | UIDS[self.rng.below(UIDS.len())],
                 ),
-                _ => ((0, 0), 0x8000 | UIDS[self.rng.below(UIDS.len())]),
             };
             let expected = standing.linked(sender, interface);
             self.check_forward(

@@ -1,5 +1,7 @@
 //! Counts what was tried, so that a test that tried nothing shows.
 
+mod any;
+
 use crate::case::{Answer, Call, Case};
 use crate::generate::COMMANDS;
 use std::collections::BTreeMap;
@@ -11,6 +13,7 @@ pub struct Tally {
     each: bool,
     outcomes: BTreeMap<(&'static str, u8), usize>,
     codes: BTreeMap<((u8, u8), u8), usize>,
+    any: BTreeMap<String, usize>,
 }
 
 impl Tally {
@@ -44,6 +47,9 @@ impl Tally {
                 .entry(((msg[11], msg[12]), reply[15]))
                 .or_default() += 1;
         }
+        for met in any::met(answer) {
+            *self.any.entry(met).or_default() += 1;
+        }
     }
 
     pub fn print(&self) {
@@ -52,6 +58,9 @@ impl Tally {
         }
         for (((uid, member), code), times) in &self.codes {
             println!("  command {uid:02X}.{member:02X} code {code:02X}: {times}");
+        }
+        for (met, times) in &self.any {
+            println!("  {met}: {times}");
         }
     }
 
@@ -78,6 +87,13 @@ impl Tally {
             missing.extend(never.map(|code| format!("command {command:02X?} code {code:02X}")));
         }
         missing
+    }
+
+    /// What never came up of the special values, which runs meet as single calls do.
+    pub fn missing_any(&self) -> Vec<String> {
+        let mut all = any::all();
+        all.retain(|name| !self.any.contains_key(name));
+        all
     }
 }
 

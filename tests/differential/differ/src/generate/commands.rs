@@ -33,7 +33,10 @@ impl View {
         } else {
             None
         };
-        let bind = stored.unwrap_or_else(|| self.bind(rng));
+        let mut bind = stored.unwrap_or_else(|| self.bind(rng));
+        if rng.percent(12) {
+            bind = self.said_otherwise(rng, bind);
+        }
         let mut payload = match command {
             (2, 1) => self.bind(rng).to_vec(),
             (2, 2) => bind.to_vec(),

@@ -26,16 +26,13 @@ impl View {
         let msg = match rng.below(10) {
             0..=4 => {
                 let bind = rng.pick(&self.binds);
-                let mut bind = bind.unwrap_or_else(|| self.bind(rng));
-                if rng.percent(10) {
-                    bind[rng.below(5)] ^= 1 << rng.below(8);
-                }
-                let source = (word(&bind, 0) & 0x7FFF, bind[2]);
+                let bind = bind.unwrap_or_else(|| self.bind(rng));
+                let (sender, interface) = self.request_for(rng, bind);
                 let member = rng.octet();
                 // Now and then not quite the bind address.
                 let device = if rng.percent(4) { 0xFFFF } else { 0x7FFF };
                 let unit = if rng.percent(4) { rng.octet() } else { 0xFF };
-                header(rng, source, device, unit, kind, word(&bind, 3), member)
+                header(rng, sender, device, unit, kind, interface, member)
             }
             5..=7 => {
                 let group = 0x8000 | self.group(rng);

@@ -1,5 +1,6 @@
 //! Tables that are sound ("Tables are sound if"): free, crowded, and built record by record.
 
+use super::any::{perhaps_any, ANY_DEVICE, ANY_UNIT};
 use super::records::{word, BIND, DEVICE, GROUP, MEMBER, MOST, UNITS};
 use super::units::{has, set_of, some_set, UnitSet};
 use super::view::{some_address, View};
@@ -83,7 +84,8 @@ fn device(address: u16, rights: bool, units: UnitSet) -> [u8; DEVICE] {
 }
 
 /// Full tables with every member in one group and every bind from one source,
-/// so that the list and the reply become as long as they can.
+/// written out or by special values, so that the list and the reply become as
+/// long as they can.
 pub fn crowded_world(rng: &mut Rng) -> World {
     let mut world = World::default();
     // Ten units for each device, unit 0 first, with gaps of one width.
@@ -109,13 +111,18 @@ pub fn crowded_world(rng: &mut Rng) -> World {
     }
     let [s1, s2, source_unit] = units[rng.below(MOST[3] + 1)];
     let through_group = rng.below(MOST[1]);
-    for (at, [d1, d2, unit]) in units[MOST[3] + 1..][..MOST[1]].iter().enumerate() {
-        world.binds.extend([s1, s2, source_unit, 0x82, 0x00]);
-        world.binds.extend(if at == through_group {
+    // Whether scene switches' binds are among them.
+    let scenes = rng.percent(50);
+    for (at, destination) in units[MOST[3] + 1..][..MOST[1]].iter().enumerate() {
+        let [d1, d2, unit] = if at == through_group {
             [0x80, group, 0]
         } else {
-            [*d1, *d2, *unit]
-        });
+            *destination
+        };
+        let bind = [s1, s2, source_unit, 0x82, 0x00, d1, d2, unit];
+        world
+            .binds
+            .extend(if scenes { perhaps_any(rng, bind) } else { bind });
     }
     world
 }
@@ -159,6 +166,7 @@ pub fn constructed_world(rng: &mut Rng) -> World {
         Some([g1, g2, d1, d2, unit])
     });
     let few_sources = [view.unit(rng), view.unit(rng)];
+    let scenes = !crowded || rng.percent(50);
     construct(rng, &mut world.binds, BIND, |rng| {
         let source = match rng.below(4) {
             _ if crowded => few_sources[0],
@@ -168,6 +176,9 @@ pub fn constructed_world(rng: &mut Rng) -> World {
         let mut bind = view.new_bind(rng, source);
         if crowded {
             bind[3..5].copy_from_slice(&[0x82, 0x00]);
+        }
+        if scenes {
+            bind = perhaps_any(rng, bind);
         }
         bind_holds(&view, &bind).then_some(bind)
     });
@@ -192,5 +203,11 @@ fn bind_holds(view: &View, bind: &[u8; BIND]) -> bool {
     } else {
         exists(destination, bind[7]) && (destination, bind[7]) != (word(bind, 0), bind[2])
     };
-    there && exists(word(bind, 0), bind[2]) && bind[7] != 0xFF && word(bind, 3) & 0x7FFF != 0x7FFF
+    let source = match (word(bind, 0), bind[2]) {
+        (ANY_DEVICE, _) => true,
+        // Every device has unit 0.
+        (device, ANY_UNIT) => exists(device, 0),
+        (device, unit) => exists(device, unit),
+    };
+    there && source && bind[7] != 0xFF
 }

@@ -1,7 +1,9 @@
 //! Tables that are not sound, or only just are ("Tables are sound if"), and tables of random octets.
 
+use super::any::{put_uid, ANY_DEVICE, ANY_INTERFACE, ANY_UNIT};
 use super::records::{free, some_record, table, GROUP, MOST, SIZES, UNITS};
 use super::units::{near, put, some_unit};
+use super::view::some_address;
 use crate::case::World;
 use crate::rng::Rng;
 
@@ -31,14 +33,7 @@ pub fn spoil(rng: &mut Rng, world: &mut World) {
             1 => record[15] = rng.octet() % 3,
             _ => record[3 + rng.below(13)] = rng.octet() % 3,
         },
-        10 => match rng.below(6) {
-            0 => record[7] = 0xFF,
-            1 => record.copy_within(0..3, 5),
-            2 => record[5] ^= 0x80,
-            3 => record[0] ^= 0x80,
-            4 => record[2] = near(rng, record[2]),
-            _ => record[7] = near(rng, record[7]),
-        },
+        10 => spoil_bind(rng, record),
         _ => match rng.below(3) {
             0 => record[4] = near(rng, record[4]),
             1 => record[0] ^= 0x80,
@@ -114,6 +109,31 @@ fn spoil_device(rng: &mut Rng, record: &mut [u8]) {
         3 => put(units, 255, true),
         4 => put(units, some_unit(rng, units), false),
         _ => put(units, rng.octet(), true),
+    }
+}
+
+/// What Add Bind asks of a bind, and octet 1's top bit. A special value breaks
+/// no rule by itself. Any device with the top bit does, and any unit beside a
+/// device that is not there, and a unit that was well beside any device and that
+/// the device now written out has not.
+fn spoil_bind(rng: &mut Rng, record: &mut [u8]) {
+    match rng.below(12) {
+        0 => record[7] = 0xFF,
+        1 => record.copy_within(0..3, 5),
+        2 => record[5] ^= 0x80,
+        3 => record[0] ^= 0x80,
+        4 => record[2] = near(rng, record[2]),
+        5 => record[7] = near(rng, record[7]),
+        6 => record[..2].copy_from_slice(&(0x8000 | ANY_DEVICE).to_be_bytes()),
+        7 => record[..2].copy_from_slice(&ANY_DEVICE.to_be_bytes()),
+        8 => record[2] = ANY_UNIT,
+        9 | 10 => {
+            record[..2].copy_from_slice(&some_address(rng).to_be_bytes());
+            if rng.percent(60) {
+                record[2] = ANY_UNIT;
+            }
+        }
+        _ => put_uid(record, ANY_INTERFACE),
     }
 }
 

@@ -1,5 +1,6 @@
 //! What stands in the tables, to aim calls at: units, groups, binds and members that are there, or only just are not.
 
+use super::any::{perhaps_any, ANY_INTERFACE};
 use super::records::{used, word, BIND, DEVICE, GROUP, MEMBER, UNITS};
 use super::units::{near, some_unit};
 use crate::case::World;
@@ -89,17 +90,19 @@ impl View {
                 bind[rng.below(BIND)] ^= 1 << rng.below(8);
                 bind
             }
+            Some(bind) if rng.percent(20) => self.said_otherwise(rng, bind),
             Some(bind) if rng.percent(30) => self.new_bind(rng, (word(&bind, 0), bind[2])),
             _ => {
                 let source = self.perhaps_unit(rng);
-                self.new_bind(rng, source)
+                let bind = self.new_bind(rng, source);
+                perhaps_any(rng, bind)
             }
         }
     }
 
     pub(super) fn new_bind(&self, rng: &mut Rng, source: (u16, u8)) -> [u8; BIND] {
         let uid = match rng.below(50) {
-            0 => 0x7FFF,
+            0 => ANY_INTERFACE,
             1 => rng.word() & 0x7FFF,
             _ => rng.weighted(&[
                 (60, UIDS[0]),

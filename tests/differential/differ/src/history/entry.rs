@@ -119,9 +119,11 @@ impl Entry {
         }
     }
 
+    /// A removal compares octets, "so any matches only any" ("CR 4").
     pub(super) fn withdraws_bind(&self, bind: &Bind) -> bool {
         let source = word(bind, 0);
         let destination = word(bind, 5);
+        // Any device ("CR 4") is the address of none that was released.
         if let Some(address) = self.released() {
             return source == address || destination == address;
         }

@@ -1,6 +1,7 @@
 //! What a history says at one moment: who exists, who is linked and who is in a group.
 
 use super::entry::{Bind, Member};
+use super::matching::matches;
 use super::History;
 use crate::generate::{has, word, UnitSet};
 
@@ -41,11 +42,11 @@ impl Standing<'_> {
         rising(members.map(|member| (word(member, 2), member[4])).collect())
     }
 
-    /// The units that the history links to this sender and interface.
+    /// The units that the history links to this sender and interface, by the binds that match.
     pub fn linked(&self, sender: Unit, interface: u16) -> Vec<Unit> {
         let mut units = Vec::new();
         for bind in &self.binds {
-            if (word(bind, 0), bind[2]) != sender || word(bind, 3) != interface {
+            if !matches(bind, sender, interface) {
                 continue;
             }
             match word(bind, 5) {
