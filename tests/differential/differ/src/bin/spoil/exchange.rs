@@ -70,6 +70,12 @@ impl Exchange {
         }
     }
 
+    /// Whether a device has the address that stands first here.
+    pub fn is_device(&self, named: &[u8]) -> bool {
+        let mut devices = self.before[DEVICES].chunks_exact(DEVICE);
+        named[..2] == [0, 0] || devices.any(|device| device[..2] == named[..2])
+    }
+
     /// Whether the message names, from this place on, a unit that its device has not, though it has a higher one. A word of group type names no device.
     pub fn in_gap(&self, at: usize) -> bool {
         let Some(&[high, low, unit]) = self.before[SENT]

@@ -7,8 +7,10 @@ use super::exchange::{
 
 pub type Spoil = fn(&mut Exchange);
 
-/// Name, what a history alone must show, and the fault.
-pub const FAULTS: &[(&str, bool, Spoil)] = &[
+/// Name, whether a history alone must show it, and the fault.
+pub type Fault = (&'static str, bool, Spoil);
+
+pub const FAULTS: &[Fault] = &[
     ("unit-stored-too-high", true, |e| {
         if let Some(bind) = e.added_bind() {
             bind[7] = bind[7].wrapping_add(1);

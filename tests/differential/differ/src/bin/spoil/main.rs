@@ -4,11 +4,13 @@
 //! spoil              prints the faults, one a line; those that a history alone must show are marked
 //! spoil FAULT PART.. starts the part, and spoils its answers; `nothing` leaves them as they are
 
+mod any;
+mod binds;
 mod exchange;
 mod faults;
 
 use exchange::Exchange;
-use faults::{Spoil, FAULTS};
+use faults::{Fault, Spoil};
 use std::io::{self, Read, Write};
 use std::process::{Command, ExitCode, Stdio};
 
@@ -87,24 +89,24 @@ fn serve(spoil: Spoil, part: &[String]) -> io::Result<()> {
     Ok(())
 }
 
+fn faults() -> impl Iterator<Item = Fault> {
+    faults::FAULTS.iter().chain(any::FAULTS).copied()
+}
+
 fn main() -> ExitCode {
     let words: Vec<String> = std::env::args().skip(1).collect();
     if words.is_empty() {
-        for (name, history, _) in FAULTS {
-            println!("{name} {}", if *history { "history" } else { "octets" });
+        for (name, history, _) in faults() {
+            println!("{name} {}", if history { "history" } else { "octets" });
         }
         return ExitCode::SUCCESS;
     }
-    let nothing: (&str, bool, Spoil) = ("nothing", false, |_| {});
-    let Some((_, _, spoil)) = FAULTS
-        .iter()
-        .chain([&nothing])
-        .find(|fault| fault.0 == words[0])
-    else {
+    let nothing: Fault = ("nothing", false, |_| {});
+    let Some((_, _, spoil)) = faults().chain([nothing]).find(|fault| fault.0 == words[0]) else {
         eprintln!("spoil: no fault {}", words[0]);
         return ExitCode::from(2);
     };
-    match serve(*spoil, &words[1..]) {
+    match serve(spoil, &words[1..]) {
         Ok(()) => ExitCode::SUCCESS,
         // The harness ends at the first difference, and its pipes with it.
         Err(_) => ExitCode::from(1),
