@@ -135,6 +135,16 @@ fn state(binds: usize, matching: usize, members: usize, room: (usize, usize)) ->
 
 const FULL: (usize, usize) = (64, 128);
 
+/// A scene switch's tables: each bind of any device, any unit and any interface.
+fn of_any(mut state: State) -> State {
+    for bind in state.binds.chunks_exact_mut(8) {
+        bind[..3].copy_from_slice(&[0x7F, 0xFF, 0xFF]);
+        bind[3] |= 0x7F;
+        bind[4] = 0xFF;
+    }
+    state
+}
+
 /// The switch's message to an address, and to how many it goes.
 fn delivery(name: &str, to: (u16, u8), state: State, recipients: usize) -> Case {
     Case {
@@ -198,6 +208,12 @@ pub fn cases() -> Vec<Case> {
             "delivery, 64 matching binds of 64",
             BIND_ADDRESS,
             full(),
+            64,
+        ),
+        delivery(
+            "delivery, 64 binds of a scene switch",
+            BIND_ADDRESS,
+            of_any(full()),
             64,
         ),
         delivery("delivery, group of 128", GROUP_ADDRESS, full(), 128),
