@@ -190,9 +190,8 @@ fn bind_holds(devices: &[u8], groups: &[u8], bind: &[u8]) -> bool {
 
 /// The field rules of Add Bind ("Add Bind 0x02"), less "same bind present".
 /// Any UID will do: "Add Bind no longer gives 0x02 for these three values"
-/// ("CR 4"). The destination is the source unit itself "only where both are
-/// written out", and so says equal octets: no destination that exists has a
-/// device or a unit of the special values.
+/// ("CR 4"). A unit is bound to itself "only where both are written out", which
+/// equal octets say: no destination that exists has a special value.
 pub fn bind_fields_hold(devices: &[u8], groups: &[u8], bind: &[u8]) -> bool {
     let destination = word(bind, 5);
     let unit = bind[7];
