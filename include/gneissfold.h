@@ -102,9 +102,9 @@ enum gneissfold_code {
 
 /*
  * Binds. A request to the bind address goes by a bind where source device, source unit and UID are each equal, or the bind says any there; the
- * interface type is always compared. Add Bind takes these values as it takes any other; a device written out must exist, and beside it a
- * unit written out must be one of its units, while beside any device a unit may be 0 to 254. So one bind serves a key in every room.
- * Removals compare octets: any takes only any. gneissfold_release takes the binds that name the device, and any device names none.
+ * interface type is always compared. Add Bind asks of a source: a device written out must exist, and beside it a unit written out must be
+ * one of its units, while beside any device a unit may be 0 to 254. So one bind serves a key in every room. A removal by source compares
+ * octets: any takes only any.
  */
 #define GNEISSFOLD_ANY_DEVICE 0x7FFF       /* as source device */
 #define GNEISSFOLD_ANY_UNIT 0xFF           /* as source unit */
@@ -168,7 +168,8 @@ uint8_t gneissfold_admit(
     uint16_t address, uint8_t rights, const uint8_t *units);
 
 /*
- * Releases a device, with its members and all binds that name it as source or individual destination. Binds of any device stay.
+ * Releases a device, with its members and all binds that name it as source or individual destination. Any device names none: a bind of
+ * any device goes only where it leads to this one.
  *
  * Lent until the call returns: devices, binds and members, to be changed, and the groups, to be read.
  *

@@ -12,7 +12,7 @@ fn copy_fits(message: &[u8], room: &[u8], device: DeviceAddress, unit: u8) -> bo
 {
     (message.len() <= room.len())
         & (device.0 <= DeviceAddress::HIGHEST)
-        & (unit != DeviceAddress::ANY_UNIT)
+        & (unit != DeviceAddress::NO_UNIT)
 }
 
 // Octets 4 to 6 of a copy: type 0, device, unit.

@@ -41,5 +41,5 @@ pub fn bind_fits(bind: [u8; 8], devices: &[u8], groups: &[u8]) -> bool
     let source = source_fits(bind, devices);
     let unit = bind_records::bind_unit(bind);
     let destination = destination_fits(bind, devices, groups);
-    (top == 0) & source & (unit != DeviceAddress::ANY_UNIT) & destination
+    (top == 0) & source & (unit != DeviceAddress::NO_UNIT) & destination
 }

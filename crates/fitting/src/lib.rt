@@ -28,7 +28,7 @@ pub fn device_in_range(address: DeviceAddress, rights: u8, given: &[u8], from: u
 {
     let fits = address_fits(address.0);
     let first = device_records::in_set(given, from, 0);
-    let last = device_records::in_set(given, from, DeviceAddress::ANY_UNIT);
+    let last = device_records::in_set(given, from, DeviceAddress::NO_UNIT);
     fits & (rights <= 1) & first & !last
 }
 

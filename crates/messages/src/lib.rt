@@ -101,7 +101,7 @@ pub fn destination(f: Fields) -> Destination
     if (number == DeviceAddress::CONCENTRATOR.0) & (unit == 0) {
         return Destination::Concentrator;
     }
-    if (number == DeviceAddress::BIND.0) & (unit == DeviceAddress::ANY_UNIT) {
+    if (number == DeviceAddress::BIND.0) & (unit == DeviceAddress::NO_UNIT) {
         return Destination::BindAddress;
     }
     Destination::Unit(DeviceAddress(number), unit)

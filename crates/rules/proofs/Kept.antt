@@ -4,7 +4,8 @@ use Rattle.rules.specs.Types.{DeviceAddress, GroupAddress, Kind, Devices
 use Rattle.rules.specs.Lists.{any, all, _&_}
 use Rattle.rules.specs.Octets.{octetString}
 use Rattle.rules.specs.Tables.{Rec, records, used, addressed, Change, none, wipe, change}
-use Rattle.rules.specs.Layout.{size, most, key, bindSource, bindSourceUnit, bindFrom, fromAnyDevice, fromAnyUnit, toGroup, boundGroup, boundDevice, bindUnit, bindTo}
+use Rattle.rules.specs.Layout.{size, most, key, bindSource, bindSourceUnit, bindFrom, fromAnyDevice, fromAnyUnit}
+use Rattle.rules.specs.Layout.{toGroup, boundGroup, boundDevice, bindUnit, bindTo}
 use Rattle.rules.specs.Layout.{memberGroup, memberDevice, memberUnit}
 use Rattle.rules.specs.Frame.{Lent, lentOf, tables, Effect, nothing, changed}
 use Rattle.rules.specs.Exists.{admitted, hasUnit, unitExists, deviceExists, groupExists}

@@ -15,7 +15,7 @@ use Rattle.rules.specs.Units.{unitNumber}
 use Rattle.rules.specs.Message.{fields, sender}
 use Rattle.rules.specs.Recipients.{bindMatches}
 use Rattle.rules.specs.Payloads.{bindOf, wanted, memberOf, groupNamed}
-use Rattle.rules.specs.History.{bindSaid, bindNamed, groupSaid, memberSaid, memberNamed, filled, sourceSaid, interfaceSaid, madeFor}
+use Rattle.rules.specs.History.{bindSaid, bindNamed, groupSaid, memberSaid, memberNamed, filledIn, sourceSaid, interfaceSaid, madeFor}
 use Rattle.rules.proofs.Lists.{and-parts, and-true, and-false, and-assoc, same-truth}
 use Rattle.rules.proofs.Words.{shaped, shaped-length, shaped-octets, octet-small, matches-word}
 
@@ -197,18 +197,18 @@ one-number k a b c d l n = same-truth _ _ forth back
         let z : b ≡ d = sym (one-second k a b l) ∙ ap (λ z. z % k) x ∙ one-second k c d n in
         rw (eq-eqb a c y, eq-eqb b d z)
 
--- equal or any is equal where it is filled in
+-- equal or any is equal where it is filledIn in
 
-filled-equal : (anyOne said own : ℕ) → (eqb said anyOne || eqb said own) ≡ eqb (filled anyOne said own) own
-unfolding filled
+filled-equal : (anyOne said own : ℕ) → (eqb said anyOne || eqb said own) ≡ eqb (filledIn anyOne said own) own
+unfolding filledIn
 filled-equal anyOne said own = step (eqb said anyOne)
   where
     step : (w : Bool) → (w || eqb said own) ≡ eqb (cond w own said) own
     step true = sym (eq-eqb own own refl)
     step false = refl
 
-filled-below : (k anyOne said own : ℕ) → said < k → own < k → filled anyOne said own < k
-unfolding filled
+filled-below : (k anyOne said own : ℕ) → said < k → own < k → filledIn anyOne said own < k
+unfolding filledIn
 filled-below k anyOne said own l n = step (eqb said anyOne)
   where
     step : (w : Bool) → cond w own said < k
@@ -226,9 +226,9 @@ pub made-for : (m : List ℕ) → octetString m ≡ true → (b : Rec) → shape
 unfolding bindMatches fromAnyDevice fromAnyUnit atAnyInterface madeFor sourceSaid interfaceSaid fields sender unitNumber joined number _&_
 made-for m o b s =
     let t = shaped-octets 8 b s in
-    let d : ℕ = filled (anyDevice .0) (word 0 b) (word 0 m % 32768) in
-    let u : ℕ = filled anyUnit (octet 2 b) (octet 2 m) in
-    let i : ℕ = filled anyInterface (word 3 b % 32768) (word 10 m % 32768) in
+    let d : ℕ = filledIn (anyDevice .0) (word 0 b) (word 0 m % 32768) in
+    let u : ℕ = filledIn anyUnit (octet 2 b) (octet 2 m) in
+    let i : ℕ = filledIn anyInterface (word 3 b % 32768) (word 10 m % 32768) in
     let x = octet-small b 2 t in
     let y = octet-small m 2 o in
     rw (

@@ -154,6 +154,7 @@ pub record AllRows : Type 0 where
   pub remove-any : AsTold answerTo scenes.remove-any
   pub release-any : AsTold calls.releaseOf scenes.release-any
   pub unsound-any : AsTold answerTo scenes.unsound-any
+  pub linked-by-history : AsTold scenes.linkedAfter scenes.linked-by-history
 
 pub as-told : AllRows
 unfolding whole readBack
@@ -204,4 +205,5 @@ as-told = record {
   remove-any = refl;
   release-any = refl;
   unsound-any = refl;
+  linked-by-history = refl;
 }

@@ -84,10 +84,11 @@ add-to-group =
     joins 0x80_01_80_05_00 (run 5 0x00_01_00_05_00)
     ∷ joins 0x00_02_00_05_01 (run 5 0x00_02_00_05_01)
     ∷ joins 0x00_01_00_00_00 (run 5 0x00_01_00_00_00)
-    -- no such group, G'7FFF; no such device, no such unit, unit 0xFF; there already
+    -- no such group, G'7FFF; no such device, D'7FFF; no such unit, unit 0xFF; there already
     ∷ not-joined 0x02 0x00_03_00_05_00
     ∷ not-joined 0x02 0x7F_FF_00_05_00
     ∷ not-joined 0x02 0x00_01_00_06_00
+    ∷ not-joined 0x02 0x00_01_7F_FF_00
     ∷ not-joined 0x02 0x00_01_00_05_02
     ∷ not-joined 0x02 0x00_01_00_05_FF
     ∷ not-joined 0x02 0x80_01_80_05_01

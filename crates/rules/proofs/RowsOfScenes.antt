@@ -1,15 +1,18 @@
--- Rows: binds of any device, any unit, any interface (document 02, request 4; document 000, 6.2.1), which one bind of a scene switch is for every room.
-use Rattle.words.specs.Basics.{List, [], _∷_, _++_, map, ℕ}
+-- Rows: binds of any device, any unit, any interface (document 02, request 4; document 000, 6.2.1): with a scene switch one bind is for every room.
+use Rattle.words.specs.Basics.{Bool, true, false, List, [], _∷_, _++_, map, ℕ}
+use Rattle.words.specs.Names.{device}
 use Rattle.rules.specs.Frame.{Lent}
 use Rattle.rules.specs.Calls.{Answer}
 use Rattle.rules.specs.Host.{HostAnswer}
-use Rattle.rules.proofs.Samples.{Row, row, run, filled, device-table, D1, D3, D4, D5, devices, groups, members, holding, house, plain, far-with, a}
-use Rattle.rules.proofs.Samples.{three-one, curtains, bindManagement, groupManagement, request, Sent, sent, unchanged, goes, grants, code}
+use Rattle.rules.specs.Message.{fields}
+use Rattle.rules.specs.History.{Call, sends, admits, releases, history, linked}
+use Rattle.rules.proofs.Samples.{Row, row, run, filled, zero-to-two, device-table, D1, D3, D4, D5, devices, groups, members, holding, house, plain, far-with, a}
+use Rattle.rules.proofs.Samples.{three-one, concentrator, curtains, bindManagement, groupManagement, letter, request, reply, list, Sent, sent, unchanged, goes, grants, code}
 use Rattle.rules.proofs.RowsOfCalls.{Releasing, releasing, hosted, not-released}
 
 -- Who gets a message
 
--- with this one bind in the house, to 4:02: requests of these units go there, and of those to nobody, at this interface
+-- with this one bind in the house, which leads to 4:02: a request of this unit at this interface goes there, or to nobody
 
 abbrev with-bind : ℕ → Lent
 with-bind b = house (run 8 b)
@@ -43,8 +46,12 @@ any-matches =
     ++ map (delivered from-three 0x82_00) (0x00_03_00 ∷ 0x00_03_01 ∷ 0x00_03_02 ∷ [])
     ++ map (unmatched from-three 0x82_00) (0x00_01_00 ∷ 0x00_04_01 ∷ 0x00_05_01 ∷ 0x00_00_00 ∷ [])
     ++ map (λ i. unmatched from-three i 0x00_03_01) (0x82_01 ∷ 0xFF_FF ∷ 0x02_00 ∷ [])
+    -- .. of device 5, which has no rights, and of the concentrator
+    ++ map (delivered 0x00_05_FF_82_00_00_04_02 0x82_00) (0x00_05_00 ∷ 0x00_05_01 ∷ [])
+    ++ delivered 0x00_00_FF_82_00_00_04_02 0x82_00 0x00_00_00
+    ∷ unmatched 0x00_00_FF_82_00_00_04_02 0x82_00 0x00_01_00
     -- any interface: every UID, from 3:01 alone; "the interface type is always compared"
-    ++ map (λ i. delivered at-any i 0x00_03_01) (0x82_00 ∷ 0x80_00 ∷ 0x80_02 ∷ 0xFF_FE ∷ 0xFF_FF ∷ [])
+    ∷ map (λ i. delivered at-any i 0x00_03_01) (0x82_00 ∷ 0x80_00 ∷ 0x80_02 ∷ 0xFF_FE ∷ 0xFF_FF ∷ [])
     ++ map (λ i. unmatched at-any i 0x00_03_01) (0x02_00 ∷ 0x7F_FE ∷ 0x7F_FF ∷ [])
     ++ map (unmatched at-any 0x82_00) (0x00_03_00 ∷ 0x00_03_02 ∷ 0x00_04_01 ∷ [])
     ++ delivered 0x00_03_01_7F_FF_00_04_02 0x02_00 0x00_03_01
@@ -91,6 +98,7 @@ scene-recipients =
     bound (run 8 0x7F_FF_FF_FF_FF_80_01_00) 0x00_03_01 2 0x00_04_02_00_05_01
     ∷ bound (run 8 0x7F_FF_FF_FF_FF_80_01_00) 0x00_01_00 3 0x00_03_01_00_04_02_00_05_01
     ∷ bound (run 8 for-all ++ run 8 from-three ++ a ++ run 8 0x7F_FF_01_82_00_00_01_01) 0x00_03_01 2 0x00_01_01_00_04_02
+    ∷ bound (run 8 for-all ++ run 8 0x00_03_01_82_00_00_05_00) 0x00_03_01 2 0x00_04_02_00_05_00
     ∷ bound (run 8 for-all ++ run 8 0x7F_FF_FF_82_00_00_05_00) 0x00_04_02 1 0x00_05_00
     ∷ row (sent (with-bind for-all) (request (run 3 0x00_04_02) curtains)) (unchanged (with-bind for-all) 2)
     -- nobody sends as any device or any unit: 13
@@ -100,7 +108,7 @@ scene-recipients =
 
 -- Add Bind
 
--- in the house without binds: stored as it came; beside other binds
+-- in the house without binds: stored as it came, or 0x02
 
 abbrev stores : ℕ → Row Sent Answer
 stores b = grants bindManagement 0x01 (run 8 b) plain (with-bind b)
@@ -116,10 +124,10 @@ add-any =
     (from-unit-one ∷ from-three ∷ at-any ∷ 0x00_03_01_7F_FF_00_04_02 ∷ for-all ∷ 0x7F_FF_FF_FF_FF_80_01_00 ∷ 0x7F_FF_FF_FF_FF_00_00_00
     -- "a unit written out beside any device may be 0 to 254": also one that no device has
     ∷ 0x7F_FF_00_82_00_00_04_02 ∷ 0x7F_FF_09_82_00_00_04_02 ∷ 0x7F_FF_FE_82_00_00_04_02
-    -- any unit of the concentrator
-    ∷ 0x00_00_FF_82_00_00_04_02
+    -- any unit of a device without rights, and of the concentrator
+    ∷ 0x00_05_FF_82_00_00_04_02 ∷ 0x00_00_FF_82_00_00_04_02
     -- "Binding a unit to itself is refused only where both are written out."
-    ∷ 0x7F_FF_01_82_00_00_03_01 ∷ 0x00_03_FF_82_00_00_03_01 ∷ [])
+    ∷ 0x7F_FF_01_82_00_00_03_01 ∷ 0x00_03_FF_82_00_00_03_01 ∷ 0x00_00_FF_82_00_00_00_00 ∷ [])
     -- octet 1's top bit is ignored, and stored as 0
     ++ grants bindManagement 0x01 (run 8 0xFF_FF_01_82_00_00_04_02) plain (with-bind from-unit-one)
     ∷ grants bindManagement 0x01 (run 8 0xFF_FF_FF_FF_FF_00_04_02) plain (with-bind for-all)
@@ -131,7 +139,7 @@ add-any =
     -- nothing of the destination changes: D'7FFF, the bind address, G'7FFF, unit 0xFF; no such unit, no such group
     ∷ 0x7F_FF_FF_FF_FF_7F_FF_00 ∷ 0x7F_FF_FF_FF_FF_7F_FF_FF ∷ 0x7F_FF_FF_FF_FF_FF_FF_00 ∷ 0x7F_FF_FF_FF_FF_00_04_FF ∷ 0x7F_FF_FF_FF_FF_00_04_03
     ∷ 0x7F_FF_FF_FF_FF_80_03_00 ∷ [])
-    -- there already, also with the top bit; beside a bind that it matches it is another one, and so is that bind beside it
+    -- there already, also with the top bit; beside a bind that is written out it is another one, and so is that one beside it
     ++ code 0x02 bindManagement 0x01 (with-bind for-all) (run 8 for-all)
     ∷ code 0x02 bindManagement 0x01 (with-bind for-all) (run 8 0xFF_FF_FF_FF_FF_00_04_02)
     ∷ grants bindManagement 0x01 (run 8 for-all) (house a) (house (a ++ run 8 for-all))
@@ -181,6 +189,8 @@ remove-any =
     ∷ leaves 0x06 (run 3 0x00_04_02) (gone ++ gone ++ gone ++ gone ++ gone)
     ∷ nothing 0x05 (run 2 0x7F_FF)
     ∷ nothing 0x06 (run 3 0x7F_FF_FF)
+    -- by source D'7FFF, where no bind says any device
+    ∷ code 0x02 bindManagement 0x03 (house (a ++ run 8 from-three)) (run 2 0x7F_FF)
     -- Delete Group takes a bind of any device to the group
     ∷ grants groupManagement 0x02 (run 2 0x00_02) (house (run 8 0x7F_FF_FF_FF_FF_80_02_00 ++ run 8 for-all)) (holding devices
     (gone ++ run 8 for-all ++ filled 32 []) (filled 48 (run 4 0x00_01_01_53 ++ run 12 0)) members)
@@ -213,3 +223,59 @@ unsound-any =
   where
     refused : List ℕ → Row Sent Answer
     refused bs = row (sent (house bs) (request three-one curtains)) (unchanged (house bs) 16)
+
+-- By history
+
+-- after these calls from free tables, the latest first: is the unit linked to who sends this?
+pub record Asked : Type 0 where
+  pub calls : List Call
+  pub message : List ℕ
+  pub unit : ℕ
+
+abbrev pub linkedAfter : Asked → Bool
+linkedAfter x = linked (history free-tables (x .calls)) (fields (x .message)) (x .unit)
+  where
+    free-tables : Lent
+    free-tables = holding (device-table 2 []) (filled 16 []) (filled 16 []) (filled 5 [])
+
+-- devices 3, with rights, and 4; then a bind of everything to 4:02, and one of 3:01 to 4:01
+
+abbrev commanding : ℕ → List ℕ → Call
+commanding member p = sends (letter three-one concentrator 0x01 bindManagement member p) reply list
+
+abbrev admitted : List Call
+admitted = admits (device 4) 0 zero-to-two ∷ admits (device 3) 1 zero-to-two ∷ []
+
+abbrev bound-for-all : List Call
+bound-for-all = commanding 0x01 (run 8 for-all) ∷ admitted
+
+abbrev bound-twice : List Call
+bound-twice = commanding 0x01 (run 8 0x00_03_01_82_00_00_04_01) ∷ bound-for-all
+
+-- a request of this unit at this interface, after these calls
+abbrev after : List Call → ℕ → ℕ → ℕ → Bool → Row Asked Bool
+after cs from interface u due = row (record { calls = cs; message = request (run 3 from) (run 2 interface); unit = u }) due
+
+-- what a bind of any links, and to whom; what it does not
+abbrev pub linked-by-history : List (Row Asked Bool)
+linked-by-history =
+    map (λ i. after bound-for-all 0x00_03_01 i 0x00_04_02 true) (0x82_00 ∷ 0x81_23 ∷ 0xFF_FF ∷ [])
+    ++ map (λ i. after bound-for-all 0x00_03_01 i 0x00_04_02 false) (0x02_00 ∷ 0x7F_FF ∷ [])
+    ++ after bound-for-all 0x00_04_00 0x82_00 0x00_04_02 true
+    ∷ after bound-for-all 0x00_03_01 0x82_00 0x00_04_01 false
+    ∷ after admitted 0x00_03_01 0x82_00 0x00_04_02 false
+    -- each alone
+    ∷ after (commanding 0x01 (run 8 from-unit-one) ∷ admitted) 0x00_04_01 0x82_00 0x00_04_02 true
+    ∷ after (commanding 0x01 (run 8 from-unit-one) ∷ admitted) 0x00_03_02 0x82_00 0x00_04_02 false
+    ∷ after (commanding 0x01 (run 8 from-three) ∷ admitted) 0x00_03_02 0x82_00 0x00_04_02 true
+    ∷ after (commanding 0x01 (run 8 from-three) ∷ admitted) 0x00_04_01 0x82_00 0x00_04_02 false
+    ∷ after (commanding 0x01 (run 8 at-any) ∷ admitted) 0x00_03_01 0x81_23 0x00_04_02 true
+    ∷ after (commanding 0x01 (run 8 at-any) ∷ admitted) 0x00_03_02 0x81_23 0x00_04_02 false
+    -- a removal of device 3's binds leaves it, one of D'7FFF's takes it alone; a release of device 3 leaves it, one of its destination takes it
+    ∷ after (commanding 0x03 (run 2 0x00_03) ∷ bound-twice) 0x00_03_01 0x82_00 0x00_04_02 true
+    ∷ after (commanding 0x03 (run 2 0x00_03) ∷ bound-twice) 0x00_03_01 0x82_00 0x00_04_01 false
+    ∷ after (commanding 0x03 (run 2 0x7F_FF) ∷ bound-twice) 0x00_03_01 0x82_00 0x00_04_02 false
+    ∷ after (commanding 0x03 (run 2 0x7F_FF) ∷ bound-twice) 0x00_03_01 0x82_00 0x00_04_01 true
+    ∷ after (releases (device 3) ∷ bound-twice) 0x00_04_00 0x82_00 0x00_04_02 true
+    ∷ after (releases (device 4) ∷ bound-twice) 0x00_03_01 0x82_00 0x00_04_02 false
+    ∷ []

@@ -91,9 +91,10 @@ binds-and-members =
     ∷ 0xFF_FF_FF_FF_FF_FF_FF_FE ∷ [])
     -- a bind twice
     ++ with-binds (run 8 0x00_03_01_82_00_00_04_02 ++ filled 8 [] ++ run 8 0x00_03_01_82_00_00_04_02)
-    -- no such group, also with the top bit; no such device, no such unit, unit 1 of the concentrator; a member twice; not free
+    -- no such group, also with the top bit; no such device, D'7FFF, no such unit, unit 1 of the concentrator; a member twice; not free
     ∷ map with-member
-    (0x00_03_00_04_00 ∷ 0x80_01_00_04_00 ∷ 0x00_01_00_06_00 ∷ 0x00_01_00_04_03 ∷ 0x00_01_00_00_01 ∷ 0x00_01_00_05_01 ∷ 0xFF_FF_FF_FF_00 ∷ [])
+    (0x00_03_00_04_00 ∷ 0x80_01_00_04_00 ∷ 0x00_01_00_06_00 ∷ 0x00_01_7F_FF_00 ∷ 0x00_01_00_04_03 ∷ 0x00_01_00_00_01 ∷ 0x00_01_00_05_01
+    ∷ 0xFF_FF_FF_FF_00 ∷ [])
 
 -- with a list that is long enough for each of them
 abbrev list : List ℕ

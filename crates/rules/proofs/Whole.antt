@@ -124,7 +124,7 @@ unfolding history.existing history.memberCount history.freeTable history.freeTab
 of-history-3 = 0
 
 unfoldable of-history-4 : ℕ
-unfolding history.memberSaid history.memberNamed history.filled history.sourceSaid history.interfaceSaid history.madeFor
+unfolding history.memberSaid history.memberNamed history.filledIn history.sourceSaid history.interfaceSaid history.madeFor
 of-history-4 = 0
 
 unfoldable tables-and-messages : ℕ

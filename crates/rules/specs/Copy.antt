@@ -1,6 +1,6 @@
 -- "A copy equals the message but for octets 4 to 6: type 0, device, unit." (document 01, Recipients)
 use Rattle.words.specs.Basics.{Bool, not, List, [], _∷_, _++_, ℕ, eqb, leb, length, sets}
-use Rattle.words.specs.Names.{highest, anyUnit}
+use Rattle.words.specs.Names.{highest, noUnit}
 use Rattle.rules.specs.Types.{DeviceAddress, Outcome, Done, NoCopy}
 use Rattle.rules.specs.Lists.{ask, _&_}
 use Rattle.rules.specs.Octets.{octets, over}
@@ -11,7 +11,7 @@ copied m d u = sets m 3 (octets (d .0) ++ u ∷ [])
 
 -- outcome 19: "room shorter than the message, device above 0x7FFE or unit 0xFF"
 unfoldable pub copyFits : List ℕ → List ℕ → DeviceAddress → ℕ → Bool
-copyFits m room d u = leb (length m) (length room) & leb (d .0) highest & not (eqb u anyUnit)
+copyFits m room d u = leb (length m) (length room) & leb (d .0) highest & not (eqb u noUnit)
 
 -- what copying answers, and what the room then holds
 pub record CopyAnswer : Type 0 where

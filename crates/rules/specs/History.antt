@@ -188,24 +188,24 @@ unfoldable pub reaches : List Rec → ℕ → Rec → Bool
 reaches ms u b =
     cond (toGroup b) (any (λ x. eqb (memberGroup x .0) (boundGroup b .0) & eqb (memberNumber x) u) ms) (eqb (bindTo b) u)
 
--- a number that a bind says, filled in by the message's own where it is the one for any
-unfoldable pub filled : (anyOne said own : ℕ) → ℕ
-filled anyOne said own = cond (eqb said anyOne) own said
+-- a number that a bind says; where it is the one for any, the message's own is filled in
+unfoldable pub filledIn : (anyOne said own : ℕ) → ℕ
+filledIn anyOne said own = cond (eqb said anyOne) own said
 
--- the source that a bind says to a message of these fields, and the interface with its role, each filled in and one number
+-- so filled in by a message of these fields, the source of a bind as one number, and its interface with its role as one
 
 unfoldable pub sourceSaid : Fields → Rec → ℕ
 sourceSaid f b =
-    unitNumber (device (filled (anyDevice .0) (bindSource b .0) (f .source .0))) (filled anyUnit (bindSourceUnit b) (f .«source_unit»))
+    unitNumber (device (filledIn (anyDevice .0) (bindSource b .0) (f .source .0))) (filledIn anyUnit (bindSourceUnit b) (f .«source_unit»))
 
 unfoldable pub interfaceSaid : Fields → Rec → ℕ
-interfaceSaid f b = joined (bindRole b) (filled anyInterface (bindUid b) (f .uid))
+interfaceSaid f b = joined (bindRole b) (filledIn anyInterface (bindUid b) (f .uid))
 
--- "matching": so filled in, was the bind made for the sender of the message, and for its interface and role?
+-- "matching" (document 02, request 4): was the bind, filled in, made for the sender of the message, and for its interface and role?
 unfoldable pub madeFor : Fields → Rec → Bool
 madeFor f b = eqb (sourceSaid f b) (sender f) & eqb (interfaceSaid f b) (joined (f .«interface_type») (f .uid))
 
--- is the unit u linked to that sender?
+-- does a matching bind link the unit u to the sender?
 unfoldable pub linked : List Event → Fields → ℕ → Bool
 linked h f u = any (λ b. madeFor f b & reaches (standing Members h) u b) (standing Binds h)
 

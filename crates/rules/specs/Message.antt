@@ -1,6 +1,6 @@
 -- The message (document 01, The message; document 003, 7): its fields, when it is refused, and the header of a reply.
 use Rattle.words.specs.Basics.{Bool, cond, List, _∷_, _++_, ℕ, _-_, _%_, eqb, leb, length, drop}
-use Rattle.words.specs.Names.{noFields, device, group, concentrator, bindAddress, anyUnit, headerLength, payloadPlace, longest, flagSet}
+use Rattle.words.specs.Names.{noFields, device, group, concentrator, bindAddress, noUnit, headerLength, payloadPlace, longest, flagSet}
 use Rattle.words.specs.Names.{commandType, responseType, lastType, responseTypes}
 use Rattle.words.specs.declared.Destination.{Destination}
 use Rattle.rules.specs.Types.{Fields, Concentrator, BindAddress, Unit, Group, Outcome, Done, WrongLength, WrongDataLength, WrongType, Reading}
@@ -49,7 +49,7 @@ unfoldable pub destination : Fields → Destination
 destination f =
     cond (eqb (f .«address_type») flagSet) (Group (group (f .destination)))
     (cond (eqb (f .destination) (concentrator .0) & eqb (f .«destination_unit») 0) Concentrator
-    (cond (eqb (f .destination) (bindAddress .0) & eqb (f .«destination_unit») anyUnit) BindAddress
+    (cond (eqb (f .destination) (bindAddress .0) & eqb (f .«destination_unit») noUnit) BindAddress
     (Unit (device (f .destination)) (f .«destination_unit»))))
 
 unfoldable pub response : Fields → Bool

@@ -1,6 +1,6 @@
 -- "Tables are sound if" (document 01, Tables)
 use Rattle.words.specs.Basics.{Bool, true, cond, not, _&&_, _||_, List, [], _∷_, ℕ, _*_, _%_, eqb, leb, length, take}
-use Rattle.words.specs.Names.{lowest, highest, anyUnit}
+use Rattle.words.specs.Names.{lowest, highest, noUnit}
 use Rattle.rules.specs.Types.{DeviceAddress, Kind, Devices, Binds, Groups, Members}
 use Rattle.rules.specs.Lists.{any, all, _&_}
 use Rattle.rules.specs.Octets.{flag}
@@ -21,7 +21,7 @@ addressFits a = leb lowest a & leb a highest
 
 -- address, rights 0 or 1; "Unit 0 is always set and unit 255 never" (document 02, request 2)
 unfoldable pub deviceInRange : DeviceAddress → ℕ → List ℕ → Bool
-deviceInRange d rights us = addressFits (d .0) & leb rights 1 & inSet 0 us & not (inSet anyUnit us)
+deviceInRange d rights us = addressFits (d .0) & leb rights 1 & inSet 0 us & not (inSet noUnit us)
 
 -- .. and "one octet 0"
 unfoldable pub deviceFits : Rec → Bool
@@ -39,18 +39,19 @@ sourceFits ds b =
     (cond (fromAnyUnit b) (deviceExists ds (bindSource b))
     (unitExists ds (bindSource b) (bindSourceUnit b)))
 
--- the destination is a group that exists, or a unit that exists and is not the source unit itself
+-- the destination is a group that exists, or a unit that exists and is not the source unit itself, "where both are written out": as no destination is any,
+-- equal numbers are
 unfoldable pub destinationFits : List Rec → List Rec → Rec → Bool
 destinationFits ds gs b =
     cond (toGroup b) (groupExists gs (boundGroup b))
     (unitExists ds (boundDevice b) (bindUnit b) & not (eqb (bindTo b) (bindFrom b)))
 
--- the field rules of Add Bind (document 01, Commands and codes), and "a bind's octet 1 with top bit 0"
+-- the field rules of Add Bind (document 01, Commands and codes; document 02, request 4: any UID will do), and "a bind's octet 1 with top bit 0"
 unfoldable pub bindFits : List Rec → List Rec → Rec → Bool
 bindFits ds gs b =
     eqb (flag (bindSource b .0)) 0
     & sourceFits ds b
-    & not (eqb (bindUnit b) anyUnit)
+    & not (eqb (bindUnit b) noUnit)
     & destinationFits ds gs b
 
 -- "each device and unit named exists; each group named exists"

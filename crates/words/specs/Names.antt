@@ -35,7 +35,7 @@ group n = record { 0 = n }
 abbrev pub concentrator : DeviceAddress
 concentrator = device 0x0000
 
--- D'7FFF, the bind address with unit 0xFF
+-- D'7FFF, with unit 0xFF the bind address
 abbrev pub bindAddress : DeviceAddress
 bindAddress = device 0x7FFF
 
@@ -46,11 +46,15 @@ lowest = 0x0001
 abbrev pub highest : ℕ
 highest = 0x7FFE
 
--- the highest that a unit may have
+-- the highest that a unit may have, and the one that is no unit's: the bind address's
+
 abbrev pub highestUnit : ℕ
 highestUnit = 254
 
--- "any" in a bind, as source device, source unit and interface UID (document 000, 6.2.1): no device, unit or interface has one of these numbers
+abbrev pub noUnit : ℕ
+noUnit = 0xFF
+
+-- what a bind says for any: as its source device, its source unit, its UID (document 000, 6.2.1)
 
 abbrev pub anyDevice : DeviceAddress
 anyDevice = device 0x7FFF

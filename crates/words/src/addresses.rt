@@ -15,10 +15,12 @@ impl DeviceAddress {
 
     pub const HIGHEST: u16 = 0x7FFE;
 
-    // The highest number that a unit may have.
+    // The highest number that a unit may have, and the one that is no unit's.
     pub const HIGHEST_UNIT: u8 = 254;
 
-    // "any" in a bind, as its source device and source unit: no device and no unit has this number.
+    pub const NO_UNIT: u8 = 0xFF;
+
+    // What a bind says for any, as its source device and as its source unit.
     pub const ANY: DeviceAddress = DeviceAddress(0x7FFF);
 
     pub const ANY_UNIT: u8 = 0xFF;

@@ -24,7 +24,7 @@ impl Fields {
 
     pub const LAST_TYPE: u8 = 0x10;
 
-    // Interface UIDs; the last is "any" in a bind, and no interface's.
+    // Interface UIDs, and what a bind says for any.
     pub const BIND_MANAGEMENT: u16 = 0x0002;
 
     pub const GROUP_MANAGEMENT: u16 = 0x0003;
