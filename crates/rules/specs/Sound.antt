@@ -39,14 +39,14 @@ sourceFits ds b =
     (cond (fromAnyUnit b) (deviceExists ds (bindSource b))
     (unitExists ds (bindSource b) (bindSourceUnit b)))
 
--- the destination is a group that exists, or a unit that exists and is not the source unit itself, "where both are written out": as no destination is any,
--- equal numbers are
+-- the destination is a group that exists, or a unit that exists and is not the source unit itself. No destination is any, so that two equal numbers are a
+-- unit bound to itself "where both are written out" (document 02, request 4)
 unfoldable pub destinationFits : List Rec → List Rec → Rec → Bool
 destinationFits ds gs b =
     cond (toGroup b) (groupExists gs (boundGroup b))
     (unitExists ds (boundDevice b) (bindUnit b) & not (eqb (bindTo b) (bindFrom b)))
 
--- the field rules of Add Bind (document 01, Commands and codes; document 02, request 4: any UID will do), and "a bind's octet 1 with top bit 0"
+-- the field rules of Add Bind (document 01, Commands and codes; document 02, request 4: every UID will do), and "a bind's octet 1 with top bit 0"
 unfoldable pub bindFits : List Rec → List Rec → Rec → Bool
 bindFits ds gs b =
     eqb (flag (bindSource b .0)) 0
