@@ -197,7 +197,7 @@ one-number k a b c d l n = same-truth _ _ forth back
         let z : b ≡ d = sym (one-second k a b l) ∙ ap (λ z. z % k) x ∙ one-second k c d n in
         rw (eq-eqb a c y, eq-eqb b d z)
 
--- equal or any is equal where it is filledIn in
+-- equal or any is equal, once any is filled in
 
 filled-equal : (anyOne said own : ℕ) → (eqb said anyOne || eqb said own) ≡ eqb (filledIn anyOne said own) own
 unfolding filledIn

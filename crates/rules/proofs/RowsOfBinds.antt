@@ -6,10 +6,10 @@ use Rattle.rules.proofs.Samples.{Row, run, filled, house, plain, a, b, 
 
 -- Add Bind in the house without binds: stored as it came
 
-abbrev stores : ℕ → Row Sent Answer
+abbrev pub stores : ℕ → Row Sent Answer
 stores p = grants bindManagement 0x01 (run 8 p) plain (house (run 8 p))
 
-abbrev wrong : ℕ → Row Sent Answer
+abbrev pub wrong : ℕ → Row Sent Answer
 wrong p = code 0x02 bindManagement 0x01 plain (run 8 p)
 
 -- .. beside the bind from 3:01 to 4:02
@@ -42,7 +42,7 @@ add-bind =
     ∷ code 0x02 bindManagement 0x01 full-of-binds (run 8 0x00_03_01_82_00_00_05_02)
     ∷ []
 
-abbrev gone : List ℕ
+abbrev pub gone : List ℕ
 gone = filled 8 []
 
 -- a Remove command by its member: what is left of the five

@@ -38,7 +38,7 @@ matching =
     client = house (run 8 0x00_03_01_02_00_00_04_02)
 
 -- these binds are there, and a request of this unit goes to these n units
-abbrev bound : List ℕ → List ℕ → ℕ → ℕ → Row Sent Answer
+abbrev pub bound : List ℕ → List ℕ → ℕ → ℕ → Row Sent Answer
 bound bs from n us = row (sent (house bs) (request from curtains)) (goes (house bs) n us)
 
 -- "the named unit or the group's members, without the sender"; "Each unit stands once, by rising device, then unit"

@@ -6,8 +6,11 @@ use Rattle.rules.specs.Calls.{Answer}
 use Rattle.rules.specs.Host.{HostAnswer}
 use Rattle.rules.specs.Message.{fields}
 use Rattle.rules.specs.History.{Call, sends, admits, releases, history, linked}
-use Rattle.rules.proofs.Samples.{Row, row, run, filled, zero-to-two, device-table, D1, D3, D4, D5, devices, groups, members, holding, house, plain, far-with, a}
-use Rattle.rules.proofs.Samples.{three-one, concentrator, curtains, bindManagement, groupManagement, letter, request, reply, list, Sent, sent, unchanged, goes, grants, code}
+use Rattle.rules.proofs.Samples.{Row, row, run, filled, zero-to-two, device-table, D1, D3, D4, D5, devices, groups, members, holding, house, far-with}
+use Rattle.rules.proofs.Samples.{a, three-one, concentrator, curtains, bindManagement, groupManagement, letter, request, reply, list, Sent, sent}
+use Rattle.rules.proofs.Samples.{unchanged, goes, grants, code}
+use Rattle.rules.proofs.RowsOfDelivery.{bound}
+use Rattle.rules.proofs.RowsOfBinds.{stores, wrong, gone}
 use Rattle.rules.proofs.RowsOfCalls.{Releasing, releasing, hosted, not-released}
 
 -- Who gets a message
@@ -88,18 +91,14 @@ next-to-any =
     far-nobody : ℕ → ℕ → Row Sent Answer
     far-nobody b from = row (sent (far-with (run 8 b)) (request (run 3 from) curtains)) (unchanged (far-with (run 8 b)) 2)
 
--- these binds are there, and a request of this unit goes to these n units
-abbrev bound : List ℕ → ℕ → ℕ → ℕ → Row Sent Answer
-bound bs from n us = row (sent (house bs) (request (run 3 from) curtains)) (goes (house bs) n us)
-
 -- whom a scene switch reaches: the members of a group without the sender; each unit once, though several binds match; never the sender itself
 abbrev pub scene-recipients : List (Row Sent Answer)
 scene-recipients =
-    bound (run 8 0x7F_FF_FF_FF_FF_80_01_00) 0x00_03_01 2 0x00_04_02_00_05_01
-    ∷ bound (run 8 0x7F_FF_FF_FF_FF_80_01_00) 0x00_01_00 3 0x00_03_01_00_04_02_00_05_01
-    ∷ bound (run 8 for-all ++ run 8 from-three ++ a ++ run 8 0x7F_FF_01_82_00_00_01_01) 0x00_03_01 2 0x00_01_01_00_04_02
-    ∷ bound (run 8 for-all ++ run 8 0x00_03_01_82_00_00_05_00) 0x00_03_01 2 0x00_04_02_00_05_00
-    ∷ bound (run 8 for-all ++ run 8 0x7F_FF_FF_82_00_00_05_00) 0x00_04_02 1 0x00_05_00
+    bound (run 8 0x7F_FF_FF_FF_FF_80_01_00) three-one 2 0x00_04_02_00_05_01
+    ∷ bound (run 8 0x7F_FF_FF_FF_FF_80_01_00) (run 3 0x00_01_00) 3 0x00_03_01_00_04_02_00_05_01
+    ∷ bound (run 8 for-all ++ run 8 from-three ++ a ++ run 8 0x7F_FF_01_82_00_00_01_01) three-one 2 0x00_01_01_00_04_02
+    ∷ bound (run 8 for-all ++ run 8 0x00_03_01_82_00_00_05_00) three-one 2 0x00_04_02_00_05_00
+    ∷ bound (run 8 for-all ++ run 8 0x7F_FF_FF_82_00_00_05_00) (run 3 0x00_04_02) 1 0x00_05_00
     ∷ row (sent (with-bind for-all) (request (run 3 0x00_04_02) curtains)) (unchanged (with-bind for-all) 2)
     -- nobody sends as any device or any unit: 13
     ∷ row (sent (with-bind for-all) (request (run 3 0x7F_FF_01) curtains)) (unchanged (with-bind for-all) 13)
@@ -107,14 +106,6 @@ scene-recipients =
     ∷ []
 
 -- Add Bind
-
--- in the house without binds: stored as it came, or 0x02
-
-abbrev stores : ℕ → Row Sent Answer
-stores b = grants bindManagement 0x01 (run 8 b) plain (with-bind b)
-
-abbrev wrong : ℕ → Row Sent Answer
-wrong b = code 0x02 bindManagement 0x01 plain (run 8 b)
 
 -- "Add Bind no longer gives 0x02 for these three values."
 abbrev pub add-any : List (Row Sent Answer)
@@ -129,8 +120,8 @@ add-any =
     -- "Binding a unit to itself is refused only where both are written out."
     ∷ 0x7F_FF_01_82_00_00_03_01 ∷ 0x00_03_FF_82_00_00_03_01 ∷ 0x00_00_FF_82_00_00_00_00 ∷ [])
     -- octet 1's top bit is ignored, and stored as 0
-    ++ grants bindManagement 0x01 (run 8 0xFF_FF_01_82_00_00_04_02) plain (with-bind from-unit-one)
-    ∷ grants bindManagement 0x01 (run 8 0xFF_FF_FF_FF_FF_00_04_02) plain (with-bind for-all)
+    ++ grants bindManagement 0x01 (run 8 0xFF_FF_01_82_00_00_04_02) (house []) (with-bind from-unit-one)
+    ∷ grants bindManagement 0x01 (run 8 0xFF_FF_FF_FF_FF_00_04_02) (house []) (with-bind for-all)
     -- a device or a unit written out must be there: no such device with any unit, D'7FFE; no such unit of a device that is there, 254 and 3; unit 1 of the
     -- concentrator; a unit bound to itself, also at any interface
     ∷ map wrong
@@ -153,9 +144,6 @@ add-any =
 -- one bind that is written out, and four of any
 abbrev four-of-any : Lent
 four-of-any = house (a ++ run 8 from-unit-one ++ run 8 from-three ++ run 8 at-any ++ run 8 for-all)
-
-abbrev gone : List ℕ
-gone = filled 8 []
 
 abbrev leaves : ℕ → List ℕ → List ℕ → Row Sent Answer
 leaves member p rest = grants bindManagement member p four-of-any (house rest)
