@@ -1,6 +1,5 @@
 // The commands of Bind Management (document 01, Commands and codes). "A bind is handled as its eight octets, copied whole": it is read from a payload or a
 // record, compared and stored by value.
-use bind_records::SOURCE;
 use layouts::BIND;
 use words::BindPart;
 use words::Code;
@@ -77,10 +76,7 @@ pub fn remove_binds(binds: &mut [u8], part: BindPart, payload: &[u8]) -> Code
         (wipe (partIs part (wanted part (now (payload .entry))))) (now (binds .entry)) ⌝ }
 {
     let from = bind_records::part_start(part);
-    if from != SOURCE {
-        return changing::remove(binds, BIND, from, payload);
-    }
-    let want = payloads::source_wanted(payload);
+    let want = payloads::wanted(part, payload);
     let n = payload.len();
-    changing::remove(binds, BIND, SOURCE, &want[..n])
+    changing::remove(binds, BIND, from, &want[..n])
 }

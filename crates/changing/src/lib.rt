@@ -1,12 +1,12 @@
 // The two ways in which a command changes a table (document 01, Tables and Commands and codes): one record more, or all that match free; and the
-// reply that is its code.
+// reply that is its code, or its code and a word.
 use words::Code;
 ghost use Rattle.words.specs.Basics.{_≡_, not, [], _∷_, _+_, _%_, _<_, _≤_, length};
 ghost use Rattle.words.specs.Names.{ok, invalidArgument, notEnoughResources};
 ghost use Rattle.rules.specs.Lists.{ask};
-ghost use Rattle.rules.specs.Octets.{over};
+ghost use Rattle.rules.specs.Octets.{octets, over};
 ghost use Rattle.rules.specs.Tables.{records, matches, store, wipe};
-ghost use Rattle.rules.specs.Commands.{addition, removal};
+ghost use Rattle.rules.specs.Commands.{addition, removal, onOk};
 ghost use Rattle.changing.specs.Changing.{coded, coding};
 
 // The code of an addition: the record must not be there, and one record must be free.
@@ -58,4 +58,17 @@ pub fn write_code(out: &mut [u8], code: Code) -> usize
 {
     octets::put(out, &[code.0]);
     1
+}
+
+// A reply that has a word behind 0x00; any other code is alone.
+pub fn write_word(out: &mut [u8], code: Code, word: u16) -> usize
+    requires { ⌜ 3 ≤ length (now out) ⌝ }
+    ensures { λ r. ⌜ (r ≡ length (code .0 ∷ onOk code (octets word) []))
+        × (now (out .exit) ≡ over (code .0 ∷ onOk code (octets word) []) (now (out .entry))) ⌝ }
+{
+    if code.0 != Code::OK.0 {
+        return write_code(out, code);
+    }
+    octets::put(out, &[code.0, octets::high(word), octets::low(word)]);
+    3
 }

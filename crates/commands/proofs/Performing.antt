@@ -1,13 +1,15 @@
 -- Laws of a command whole: what a check that fails leaves, and what a handler's answer makes of the tables and the reply.
 use Rattle.words.specs.Basics.{_≡_, refl, sym, ap, _∙_, Bool, true, false, cond, List, [], _∷_, ℕ, eqb, length, eq-eqb, ne-eqb, needs}
 use Rattle.words.specs.Names.{ok, notAuthorized, invalidArgument}
-use Rattle.rules.specs.Types.{DeviceAddress, Code, Command, CreateGroup, DeleteGroup, GetGroupInfo, Kind, Devices, Binds, Groups, Members}
+use Rattle.rules.specs.Types.{DeviceAddress, Code, Command, StartSession, GetEntries, Filter, CreateGroup, DeleteGroup, GetGroupInfo, Kind, Devices, Binds}
+use Rattle.rules.specs.Types.{Groups, Members, Sessions}
 use Rattle.rules.specs.Octets.{over}
 use Rattle.rules.specs.Tables.{Change, written}
 use Rattle.rules.specs.Layout.{size}
-use Rattle.rules.specs.Frame.{Lent, lentOf, tables, also, nothing, only, changed}
+use Rattle.rules.specs.Frame.{Lent, lentOf, tables, also, Effect, nothing, only, changed}
 use Rattle.rules.specs.Exists.{hasRights}
 use Rattle.rules.specs.Payloads.{groupNamed}
+use Rattle.rules.specs.Sessions.{inSession}
 use Rattle.rules.specs.Commands.{row, rightsFit, payloadFits, judge, onOk, done, replyPayload}
 use Rattle.rules.proofs.Lists.{ask-pass, ask-fail}
 use Rattle.rules.proofs.Frames.{changed-nothing, replaced, changed-only, replaced-same}
@@ -15,24 +17,26 @@ use Rattle.changing.specs.Changing.{Coded, coded, coding}
 use Rattle.creating.specs.Creating.{Made, made, making}
 use Rattle.group_commands.specs.Grouping.{Deleted, deleted, deleting}
 use Rattle.group_info.specs.Informing.{informing}
-use Rattle.commands.specs.Perform.{performed, performing}
-use Rattle.commands.proofs.Sizes.{asked-length, whole-binds, whole-groups, whole-members, within-groups, within-members, named-groups, some-room}
+use Rattle.sessions.specs.Reading.{opened, Started, started, starting, reading}
+use Rattle.commands.specs.Perform.{performed, performing, acting}
+use Rattle.commands.proofs.Sizes.{asked-length, whole-binds, whole-groups, whole-members, whole-sessions, within-binds, within-groups, within-members, named-groups, some-room}
 
 -- A code, and what it leaves
 
--- the tables by the code
-changed-done : (L : Lent) (k : Command) (p : List ℕ) (c : Code) → changed (done (tables L) k p c) L ≡ onOk c (changed (row k .effect (tables L) p) L) L
-unfolding done onOk
-changed-done L k p c = step (eqb (c .0) (ok .0))
+-- an effect by the code
+changed-by : (L : Lent) (c : Code) (x : Effect) → changed (onOk c x nothing) L ≡ onOk c (changed x L) L
+unfolding onOk
+changed-by L c x = step (eqb (c .0) (ok .0))
   where
-    step : (b : Bool) → changed (cond b (row k .effect (tables L) p) nothing) L ≡ cond b (changed (row k .effect (tables L) p) L) L
+    step : (b : Bool) → changed (cond b x nothing) L ≡ cond b (changed x L) L
     step true = refl
     step false = changed-nothing L
 
 -- a code other than 0x00 is the whole reply, and the tables stay
-pub refused : (L : Lent) (k : Command) (p out : List ℕ) (c : Code) → (c .0 ≡ ok .0 → ⊥) → performed 1 L (over (c .0 ∷ []) out) ≡ performing L k p c out
-unfolding performing replyPayload onOk
-refused L k p out c n = rw (changed-done L k p c, ne-eqb (c .0) (ok .0) n)
+pub refused : (L : Lent) (s : DeviceAddress) (k : Command) (p out : List ℕ) (c : Code) → (c .0 ≡ ok .0 → ⊥)
+    → performed 1 L (over (c .0 ∷ []) out) ≡ performing L (done (tables L) s k p c) k p c out
+unfolding performing replyPayload done onOk
+refused L s k p out c n = rw (ne-eqb (c .0) (ok .0) n, changed-nothing L)
 
 -- The checks before a command's own
 
@@ -50,7 +54,7 @@ module _ (L : Lent) (s : DeviceAddress) (k : Command) (p : List ℕ) {rights : B
     unfolding judge payloadFits
     wrong-length z = ask-pass _ _ (rights-are h ∙ t) ∙ ask-fail _ _ (ne-eqb (length p) (row k .length p) (λ y. z (y ∙ sym l)))
 
-    pub behind-checks : length p ≡ n → judge (tables L) s k p ≡ row k .verdict (tables L) p
+    pub behind-checks : length p ≡ n → judge (tables L) s k p ≡ row k .verdict (tables L) s p
     unfolding judge payloadFits
     behind-checks z = ask-pass _ _ (rights-are h ∙ t) ∙ ask-pass _ _ (eq-eqb (length p) (row k .length p) (z ∙ l))
 
@@ -77,39 +81,63 @@ replaced-done i L c x = step (eqb (c .0) (ok .0))
 
 -- the arm of k in a handler with the table i, of which 0x00 is the whole reply
 abbrev pub ActsOn : Kind → Type 0
-ActsOn i = (L M : Lent) (j k : Command) (p out out' t : List ℕ) (n : ℕ) (c : Code) (x : Change) → j ≡ k → out' ≡ over (c .0 ∷ []) out → n ≡ 1
-    → coded c t ≡ coding (size i) (row k .verdict (tables L) p) x (lentOf i L) → M ≡ replaced i t L → row k .effect (tables L) p ≡ only i x
-    → row k .behind (tables L) p ≡ [] → performed n M out' ≡ performing L j p (row j .verdict (tables L) p) out
+ActsOn i = (L M : Lent) (s : DeviceAddress) (j k : Command) (p out out' t : List ℕ) (n : ℕ) (c : Code) (x : Change) → j ≡ k → out' ≡ over (c .0 ∷ []) out
+    → n ≡ 1 → coded c t ≡ coding (size i) (row k .verdict (tables L) s p) x (lentOf i L) → M ≡ replaced i t L → row k .effect (tables L) s p ≡ only i x
+    → row k .behind (tables L) p ≡ [] → performed n M out' ≡ acting L s j p out
 
 acts-on : (i : Kind) → ActsOn i
 unfolding performing replyPayload coding
-acts-on i L M j k p out out' t n c x a o b d m e g =
-    let v : Code = row k .verdict (tables L) p in
+acts-on i L M s j k p out out' t n c x a o b d m e g =
+    let v : Code = row k .verdict (tables L) s p in
     let ec : c ≡ v = ap (λ (y : Coded). y .code) d in
     let et : t ≡ onOk v (written (size i) x (lentOf i L)) (lentOf i L) = ap (λ (y : Coded). y .table) d in
-    rw (o, b, m, a, changed-done L k p v, e, replaced-done i L v x, g, code-alone v, ec, et)
+    rw (o, b, m, a, changed-by L v (row k .effect (tables L) s p), e, replaced-done i L v x, g, code-alone v, ec, et)
 
 -- the arm of k in a handler that changes nothing and answers 0x00, which is the whole reply
-pub acts-nothing : (L : Lent) (j k : Command) (p out out' : List ℕ) (n : ℕ) (c : Code) → j ≡ k → out' ≡ over (c .0 ∷ []) out → n ≡ 1 → c ≡ ok
-    → row k .verdict (tables L) p ≡ ok → row k .effect (tables L) p ≡ nothing → row k .behind (tables L) p ≡ []
-    → performed n L out' ≡ performing L j p (row j .verdict (tables L) p) out
+pub acts-nothing : (L : Lent) (s : DeviceAddress) (j k : Command) (p out out' : List ℕ) (n : ℕ) (c : Code) → j ≡ k → out' ≡ over (c .0 ∷ []) out → n ≡ 1
+    → c ≡ ok → row k .verdict (tables L) s p ≡ ok → row k .effect (tables L) s p ≡ nothing → row k .behind (tables L) p ≡ []
+    → performed n L out' ≡ acting L s j p out
 unfolding performing replyPayload onOk
-acts-nothing L j k p out out' n c a o b d v e g = rw (o, b, d, a, v, changed-done L k p ok, e, changed-nothing L, g)
+acts-nothing L s j k p out out' n c a o b d v e g = rw (o, b, d, a, v, e, changed-nothing L, g)
 
-module _ (L : Lent) (p out : List ℕ) where
+module _ (L : Lent) (s : DeviceAddress) (p out : List ℕ) where
   pub acts-create-group : (M : Lent) (j : Command) (n : ℕ) (gs out' : List ℕ) → j ≡ CreateGroup → made n gs out' ≡ making (L .groups) p out
-      → M ≡ replaced Groups gs L → performed n M out' ≡ performing L j p (row j .verdict (tables L) p) out
+      → M ≡ replaced Groups gs L → performed n M out' ≡ acting L s j p out
   unfolding performing replyPayload making
   acts-create-group M j n gs out' a d m =
-      let v : Code = row CreateGroup .verdict (tables L) p in
+      let v : Code = row CreateGroup .verdict (tables L) s p in
       rw (
         m,
         a,
-        changed-done L CreateGroup p v,
+        changed-by L v (row CreateGroup .effect (tables L) s p),
         replaced-done Groups L v _,
         ap (λ (y : Made). y .length) d,
         ap (λ (y : Made). y .groups) d,
         ap (λ (y : Made). y .out) d,
+      )
+
+  -- Start leaves who has a session with it
+  opened-done : (c : Code) (b : Bool) (x : Change) → onOk c (changed (cond b nothing (only Sessions x)) L) L
+      ≡ replaced Sessions (onOk c (cond b (L .sessions) (written (size Sessions) x (L .sessions))) (L .sessions)) L
+  unfolding onOk
+  opened-done c true x =
+      elim (eqb (c .0) (ok .0)) as (λ w. cond w (changed nothing L) L ≡ replaced Sessions (cond w (L .sessions) (L .sessions)) L)
+      [ true ↦ changed-nothing L ∙ sym (replaced-same Sessions L) | false ↦ sym (replaced-same Sessions L) ]
+  opened-done c false x = replaced-done Sessions L c x
+
+  pub acts-start-session : (M : Lent) (j : Command) (n : ℕ) (ss out' : List ℕ) → j ≡ StartSession
+      → started n ss out' ≡ starting (L .binds) (L .sessions) s out → M ≡ replaced Sessions ss L → performed n M out' ≡ acting L s j p out
+  unfolding performing replyPayload starting opened
+  acts-start-session M j n ss out' a d m =
+      let v : Code = row StartSession .verdict (tables L) s p in
+      rw (
+        m,
+        a,
+        changed-by L v (row StartSession .effect (tables L) s p),
+        opened-done v (inSession (tables L Sessions) s) _,
+        ap (λ (y : Started). y .length) d,
+        ap (λ (y : Started). y .sessions) d,
+        ap (λ (y : Started). y .out) d,
       )
 
   -- Delete Group changes three tables
@@ -131,16 +159,16 @@ module _ (L : Lent) (p out : List ℕ) where
 
   pub acts-delete-group : (M : Lent) (j : Command) (n : ℕ) (out' : List ℕ) (c : Code) (bs gs ms : List ℕ) → j ≡ DeleteGroup → out' ≡ over (c .0 ∷ []) out
       → n ≡ 1 → deleted c bs gs ms ≡ deleting (groupNamed p) (L .binds) (L .groups) (L .members) → M ≡ three bs gs ms
-      → performed n M out' ≡ performing L j p (row j .verdict (tables L) p) out
+      → performed n M out' ≡ acting L s j p out
   unfolding performing replyPayload deleting
   acts-delete-group M j n out' c bs gs ms a o b d m =
-      let v : Code = row DeleteGroup .verdict (tables L) p in
+      let v : Code = row DeleteGroup .verdict (tables L) s p in
       rw (
         o,
         b,
         m,
         a,
-        changed-done L DeleteGroup p v,
+        changed-by L v (row DeleteGroup .effect (tables L) s p),
         changed-three v _ _ _,
         code-alone v,
         ap (λ (y : Deleted). y .code) d,
@@ -149,17 +177,22 @@ module _ (L : Lent) (p out : List ℕ) where
         ap (λ (y : Deleted). y .members) d,
       )
 
+  -- a command that looks, and changes no table
+  looks : (k : Command) (c : Code) → row k .effect (tables L) s p ≡ nothing → changed (onOk c (row k .effect (tables L) s p) nothing) L ≡ L
+  unfolding onOk
+  looks k c e = rw e (elim (eqb (c .0) (ok .0)) as (λ b. changed (cond b nothing nothing) L ≡ L) [ true ↦ changed-nothing L | false ↦ changed-nothing L ])
+
   pub acts-get-group-info : (j : Command) (n : ℕ) (out' : List ℕ) → j ≡ GetGroupInfo
       → n ≡ length (informing (tables L Groups) (tables L Members) (groupNamed p))
-      → out' ≡ over (informing (tables L Groups) (tables L Members) (groupNamed p)) out
-      → performed n L out' ≡ performing L j p (row j .verdict (tables L) p) out
-  unfolding performing replyPayload informing onOk
-  acts-get-group-info j n out' a b o =
-      let v : Code = row GetGroupInfo .verdict (tables L) p in
-      rw (b, o, a, changed-done L GetGroupInfo p v, changed-nothing L, same v)
-    where
-      same : (c : Code) → onOk c L L ≡ L
-      same c = elim (eqb (c .0) (ok .0)) as (λ b. cond b L L ≡ L) [ true ↦ refl | false ↦ refl ]
+      → out' ≡ over (informing (tables L Groups) (tables L Members) (groupNamed p)) out → performed n L out' ≡ acting L s j p out
+  unfolding performing replyPayload informing
+  acts-get-group-info j n out' a b o = rw (b, o, a, looks GetGroupInfo (row GetGroupInfo .verdict (tables L) s p) refl)
+
+  pub acts-get-entries : (f : Filter) (j : Command) (n : ℕ) (out' : List ℕ) → j ≡ GetEntries f
+      → n ≡ length (reading (tables L Binds) (tables L Sessions) s f p) → out' ≡ over (reading (tables L Binds) (tables L Sessions) s f p) out
+      → performed n L out' ≡ acting L s j p out
+  unfolding performing replyPayload reading
+  acts-get-entries f j n out' a b o = rw (b, o, a, looks (GetEntries f) (row (GetEntries f) .verdict (tables L) s p) refl)
 
 -- An arm of `act`: what its handler asks, and what its answer is
 
@@ -169,6 +202,9 @@ acts-on-binds = acts-on Binds
 pub acts-on-members : ActsOn Members
 acts-on-members = acts-on Members
 
+pub acts-on-sessions : ActsOn Sessions
+acts-on-sessions = acts-on Sessions
+
 pub ruleset arms = (
   needs,
   some-room,
@@ -176,12 +212,17 @@ pub ruleset arms = (
   whole-binds,
   whole-groups,
   whole-members,
+  whole-sessions,
+  within-binds,
   within-groups,
   within-members,
   named-groups,
   acts-on-binds,
   acts-on-members,
+  acts-on-sessions,
   acts-nothing,
+  acts-start-session,
+  acts-get-entries,
   acts-create-group,
   acts-delete-group,
   acts-get-group-info,

@@ -1,7 +1,7 @@
 -- What a handler may count on, from soundness: whole records, tables within their limits, and groups whose fields are in range.
 use Rattle.words.specs.Basics.{_≡_, ap, _∙_, true, List, ℕ, _+_, _%_, _≤_, arith, length, leb-true}
 use Rattle.words.specs.Names.{headerLength, longest}
-use Rattle.rules.specs.Types.{Command, Kind, Binds, Groups, Members}
+use Rattle.rules.specs.Types.{Command, Kind, Binds, Groups, Members, Sessions}
 use Rattle.rules.specs.Lists.{all}
 use Rattle.rules.specs.Tables.{used, records}
 use Rattle.rules.specs.Layout.{size, full}
@@ -32,7 +32,7 @@ sizes L h =
 pub asked-length : (j k : Command) (p : List ℕ) (n : ℕ) → j ≡ k → length p ≡ row j .length p → row k .length p ≡ n → length p ≡ n
 asked-length j k p n a l e = l ∙ ap (λ (i : Command). row i .length p) a ∙ e
 
-module _ (ds bs gs ms : List ℕ) (w : Workable ds bs gs ms) where
+module _ (ds bs gs ms ss : List ℕ) (w : Workable ds bs gs ms ss) where
   pub whole-binds : length bs % size Binds ≡ 0
   whole-binds = sizes _ (w .sound) .whole Binds
 
@@ -41,6 +41,12 @@ module _ (ds bs gs ms : List ℕ) (w : Workable ds bs gs ms) where
 
   pub whole-members : length ms % size Members ≡ 0
   whole-members = sizes _ (w .sound) .whole Members
+
+  pub whole-sessions : length ss % size Sessions ≡ 0
+  whole-sessions = sizes _ (w .sound) .whole Sessions
+
+  pub within-binds : length bs ≤ full Binds
+  within-binds = sizes _ (w .sound) .within Binds
 
   pub within-groups : length gs ≤ full Groups
   within-groups = sizes _ (w .sound) .within Groups

@@ -1,15 +1,20 @@
 -- A command whole: the payload of its reply over the part of the lent reply behind the header, and the tables after it.
-use Rattle.words.specs.Basics.{_≡_, true, List, ℕ, length}
-use Rattle.rules.specs.Types.{DeviceAddress, Code, Command}
+use Rattle.words.specs.Basics.{_≡_, Bool, true, false, List, ℕ, length}
+use Rattle.rules.specs.Types.{DeviceAddress, Code, Command, AddBind, RemoveBinds, StartSession, EndSession, GetEntries, CreateGroup, DeleteGroup, AddToGroup}
+use Rattle.rules.specs.Types.{RemoveFromGroup, GetGroupInfo}
+use Rattle.rules.specs.Lists.{any}
 use Rattle.rules.specs.Octets.{over}
-use Rattle.rules.specs.Frame.{Lent, beside, tables, changed}
+use Rattle.rules.specs.Tables.{Rec, used}
+use Rattle.rules.specs.Layout.{toThisGroup}
+use Rattle.rules.specs.Frame.{Lent, beside, tables, Effect, nothing, changed}
 use Rattle.rules.specs.Sound.{sound}
-use Rattle.rules.specs.Commands.{row, judge, done, replyPayload}
+use Rattle.rules.specs.Payloads.{groupNamed}
+use Rattle.rules.specs.Commands.{row, judge, onOk, done, replyPayload}
 
 -- what commands may count on: these are of tables that are sound
-pub record Workable (ds bs gs ms : List ℕ) : Type 0 where
+pub record Workable (ds bs gs ms ss : List ℕ) : Type 0 where
   pub lent : Lent
-  pub sound : sound (beside lent ds bs gs ms) ≡ true
+  pub sound : sound (beside lent ds bs gs ms ss) ≡ true
 
 -- how many octets were written, the tables, and the part of the reply
 pub record Performed : Type 0 where
@@ -20,15 +25,33 @@ pub record Performed : Type 0 where
 abbrev pub performed : ℕ → Lent → List ℕ → Performed
 performed n L out = record { length = n; tables = L; out = out }
 
--- a command with the payload p and this code
-unfoldable pub performing : Lent → Command → List ℕ → Code → List ℕ → Performed
-performing L k p c out =
+-- a command with the payload p and this code, which changes the tables by this effect
+unfoldable pub performing : Lent → Effect → Command → List ℕ → Code → List ℕ → Performed
+performing L x k p c out =
     let q : List ℕ = replyPayload (tables L) k p c in
-    performed (length q) (changed (done (tables L) k p c) L) (over q out)
+    performed (length q) (changed x L) (over q out)
 
--- .. with the code of its own checks, and of all
-abbrev pub acting : Lent → Command → List ℕ → List ℕ → Performed
-acting L k p out = performing L k p (row k .verdict (tables L) p) out
+-- .. with the code of its own checks, and its own effect alone
+abbrev pub acting : Lent → DeviceAddress → Command → List ℕ → List ℕ → Performed
+acting L s k p out =
+    let c : Code = row k .verdict (tables L) s p in
+    performing L (onOk c (row k .effect (tables L) s p) nothing) k p c out
 
+-- .. with the code of all checks, and whole
 abbrev pub judging : Lent → DeviceAddress → Command → List ℕ → List ℕ → Performed
-judging L s k p out = performing L k p (judge (tables L) s k p) out
+judging L s k p out =
+    let c : Code = judge (tables L) s k p in
+    performing L (done (tables L) s k p c) k p c out
+
+-- does a command that is granted change the binds? Add Bind and the Remove commands do; Delete Group "where a bind to the group was there"
+unfoldable pub touches : Command → List Rec → List ℕ → Bool
+touches AddBind bs p = true
+touches (RemoveBinds q) bs p = true
+touches StartSession bs p = false
+touches EndSession bs p = false
+touches (GetEntries f) bs p = false
+touches CreateGroup bs p = false
+touches DeleteGroup bs p = any (toThisGroup (groupNamed p)) (used bs)
+touches AddToGroup bs p = false
+touches RemoveFromGroup bs p = false
+touches GetGroupInfo bs p = false

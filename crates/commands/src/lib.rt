@@ -1,14 +1,15 @@
-// A command whole: rights, length, then its own handler (document 01, Commands and codes). It gets the tables that commands use, whatever else is lent.
+// A command whole: rights, length, then its own handler (document 01, Commands and codes), and sessions closed where it changed the binds (document 02,
+// request 1). It gets the tables that commands use, whatever else is lent.
 use words::Code;
 use words::Command;
 use words::DeviceAddress;
 ghost use Rattle.words.specs.Basics.{_≡_, true, cond, _+_, _≤_, length};
 ghost use Rattle.words.specs.Names.{headerLength, longest};
-ghost use Rattle.rules.specs.Types.{Devices};
+ghost use Rattle.rules.specs.Types.{Devices, Binds};
 ghost use Rattle.rules.specs.Frame.{Lent, beside, table};
 ghost use Rattle.rules.specs.Exists.{hasRights};
 ghost use Rattle.rules.specs.Commands.{row};
-ghost use Rattle.commands.specs.Perform.{Workable, performed, acting, judging};
+ghost use Rattle.commands.specs.Perform.{Workable, performed, acting, judging, touches};
 
 // The command's own handler. The code that it gives is the payload of the reply, unless more is named.
 fn act(
@@ -16,15 +17,17 @@ fn act(
     binds: &mut [u8],
     groups: &mut [u8],
     members: &mut [u8],
+    sessions: &mut [u8],
+    source: DeviceAddress,
     command: Command,
     payload: &[u8],
     out: &mut [u8],
 ) -> usize
-    requires { ⌜ Workable (now devices) (now binds) (now groups) (now members)
+    requires { ⌜ Workable (now devices) (now binds) (now groups) (now members) (now sessions)
         × (length (now payload) ≡ row command .length (now payload)) × (longest ≤ headerLength + length (now out)) ⌝ }
     ensures { λ r. ⌜ ((L : Lent)
-        → performed r (beside L (now (devices .entry)) (now (binds .exit)) (now (groups .exit)) (now (members .exit))) (now (out .exit))
-        ≡ acting (beside L (now (devices .entry)) (now (binds .entry)) (now (groups .entry)) (now (members .entry))) command
+        → performed r (beside L (now (devices .entry)) (now (binds .exit)) (now (groups .exit)) (now (members .exit)) (now (sessions .exit))) (now (out .exit))
+        ≡ acting (beside L (now (devices .entry)) (now (binds .entry)) (now (groups .entry)) (now (members .entry)) (now (sessions .entry))) source command
         (now (payload .entry)) (now (out .entry))) ⌝ }
 {
     match command {
@@ -36,6 +39,12 @@ fn act(
             let code = bind_commands::remove_binds(binds, part, payload);
             changing::write_code(out, code)
         }
+        Command::StartSession => sessions::start(binds, sessions, source, out),
+        Command::EndSession => {
+            let code = sessions::end(sessions, source);
+            changing::write_code(out, code)
+        }
+        Command::GetEntries(filter) => sessions::read(binds, sessions, source, filter, payload, out),
         Command::CreateGroup => creating::create(groups, payload, out),
         Command::DeleteGroup => {
             let code = group_commands::delete_group(binds, groups, members, payload);
@@ -50,6 +59,25 @@ fn act(
             changing::write_code(out, code)
         }
         Command::GetGroupInfo => group_info::get_group_info(groups, members, payload, out),
+    }
+}
+
+// Will the command change the binds, if it is granted?
+fn touches(binds: &[u8], command: Command, payload: &[u8]) -> bool
+    requires { ⌜ length (now payload) ≡ row command .length (now payload) ⌝ }
+    ensures { λ r. ⌜ r ≡ touches command (table Binds (now (binds .entry))) (now (payload .entry)) ⌝ }
+{
+    match command {
+        Command::AddBind => true,
+        Command::RemoveBinds(_) => true,
+        Command::StartSession => false,
+        Command::EndSession => false,
+        Command::GetEntries(_) => false,
+        Command::CreateGroup => false,
+        Command::DeleteGroup => group_commands::is_bound(binds, payload),
+        Command::AddToGroup => false,
+        Command::RemoveFromGroup => false,
+        Command::GetGroupInfo => false,
     }
 }
 
@@ -69,15 +97,16 @@ pub fn perform(
     binds: &mut [u8],
     groups: &mut [u8],
     members: &mut [u8],
+    sessions: &mut [u8],
     source: DeviceAddress,
     command: Command,
     payload: &[u8],
     out: &mut [u8],
 ) -> usize
-    requires { ⌜ Workable (now devices) (now binds) (now groups) (now members) × (longest ≤ headerLength + length (now out)) ⌝ }
+    requires { ⌜ Workable (now devices) (now binds) (now groups) (now members) (now sessions) × (longest ≤ headerLength + length (now out)) ⌝ }
     ensures { λ r. ⌜ ((L : Lent)
-        → performed r (beside L (now (devices .entry)) (now (binds .exit)) (now (groups .exit)) (now (members .exit))) (now (out .exit))
-        ≡ judging (beside L (now (devices .entry)) (now (binds .entry)) (now (groups .entry)) (now (members .entry))) source command
+        → performed r (beside L (now (devices .entry)) (now (binds .exit)) (now (groups .exit)) (now (members .exit)) (now (sessions .exit))) (now (out .exit))
+        ≡ judging (beside L (now (devices .entry)) (now (binds .entry)) (now (groups .entry)) (now (members .entry)) (now (sessions .entry))) source command
         (now (payload .entry)) (now (out .entry))) ⌝ }
 {
     let asked = decoding::demands(command, payload);
@@ -87,5 +116,18 @@ pub fn perform(
     if payload.len() != asked.length {
         return changing::write_code(out, Code::invalid_argument());
     }
-    act(devices, binds, groups, members, command, payload, out)
+    let touching = touches(binds, command, payload);
+    let n = act(
+        devices,
+        binds,
+        groups,
+        members,
+        sessions,
+        source,
+        command,
+        payload,
+        out,
+    );
+    sessions::close_all(sessions, touching & (out[0] == Code::OK.0));
+    n
 }

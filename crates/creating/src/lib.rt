@@ -3,13 +3,13 @@ use layouts::GROUP;
 use words::Code;
 use words::DeviceAddress;
 use words::GroupAddress;
-ghost use Rattle.words.specs.Basics.{_≡_, [], _∷_, _+_, _%_, _<_, _≤_, length};
+ghost use Rattle.words.specs.Basics.{_≡_, _+_, _%_, _<_, _≤_, length};
 ghost use Rattle.rules.specs.Types.{Groups};
-ghost use Rattle.rules.specs.Octets.{octet, octets, over};
+ghost use Rattle.rules.specs.Octets.{octet};
 ghost use Rattle.rules.specs.Tables.{store};
 ghost use Rattle.rules.specs.Layout.{size, groupRecord, full};
 ghost use Rattle.rules.specs.Frame.{table};
-ghost use Rattle.rules.specs.Commands.{creation, newGroup, onOk};
+ghost use Rattle.rules.specs.Commands.{creation, newGroup};
 ghost use Rattle.changing.specs.Changing.{coded, coding};
 ghost use Rattle.creating.specs.Creating.{made, making};
 
@@ -59,20 +59,6 @@ fn create_group(groups: &mut [u8], group: GroupAddress, payload: &[u8]) -> Code
     code
 }
 
-// Create Group's reply: 0x00 is followed by the address.
-fn write_created(out: &mut [u8], code: Code, group: GroupAddress) -> usize
-    requires { ⌜ 3 ≤ length (now out) ⌝ }
-    ensures { λ r. ⌜ (r ≡ length (code .0 ∷ onOk code (octets (group .0)) []))
-        × (now (out .exit) ≡ over (code .0 ∷ onOk code (octets (group .0)) []) (now (out .entry))) ⌝ }
-{
-    if code.0 != Code::OK.0 {
-        return changing::write_code(out, code);
-    }
-    let address = group.0;
-    octets::put(out, &[code.0, octets::high(address), octets::low(address)]);
-    1 + layouts::ADDRESS
-}
-
 // Create Group whole: the smallest address not in use, the record, and the reply.
 pub fn create(groups: &mut [u8], payload: &[u8], out: &mut [u8]) -> usize
     requires { ⌜ (length (now payload) ≡ 1 + octet 0 (now payload)) × (length (now groups) % size Groups ≡ 0)
@@ -81,5 +67,5 @@ pub fn create(groups: &mut [u8], payload: &[u8], out: &mut [u8]) -> usize
 {
     let group = new_group(groups);
     let code = create_group(groups, group, payload);
-    write_created(out, code, group)
+    changing::write_word(out, code, group.0)
 }

@@ -3,9 +3,11 @@ use words::BindPart;
 use words::Command;
 use words::Decoded;
 use words::Fields;
+use words::Filter;
 ghost use Rattle.words.specs.Basics.{_≡_, cond};
 ghost use Rattle.rules.specs.Types.{CreateGroup, Is};
-ghost use Rattle.rules.specs.Payloads.{bindCommand, groupCommand, command};
+ghost use Rattle.rules.specs.Payloads.{readCommand, bindCommand, groupCommand, command};
+ghost use Rattle.rules.specs.Sessions.{filterLength};
 ghost use Rattle.rules.specs.Commands.{row};
 
 // The two checks that stand before every command's own: whether rights are asked, and how long the payload should be.
@@ -21,11 +23,45 @@ fn command_or(named: bool, command: Command, rest: Decoded) -> Decoded
     if named { Decoded::Is(command) } else { rest }
 }
 
-// Bind Management, by member, from the last to the first: `rest` is what the members behind one say.
+// Bind Management, what reads binds back, by member, from the last to the first: `rest` is what the members behind one say.
+fn read_command(member: u8) -> Decoded
+    ensures { λ r. ⌜ r ≡ readCommand member ⌝ }
+{
+    let rest = Decoded::NotServed;
+    let rest = command_or(
+        member == Command::GET_BY_DESTINATION_UNIT,
+        Command::GetEntries(Filter::Part(BindPart::DestinationUnit)),
+        rest,
+    );
+    let rest = command_or(
+        member == Command::GET_BY_DESTINATION,
+        Command::GetEntries(Filter::Part(BindPart::Destination)),
+        rest,
+    );
+    let rest = command_or(
+        member == Command::GET_BY_SOURCE_UNIT,
+        Command::GetEntries(Filter::Part(BindPart::SourceUnit)),
+        rest,
+    );
+    let rest = command_or(
+        member == Command::GET_BY_SOURCE,
+        Command::GetEntries(Filter::Part(BindPart::Source)),
+        rest,
+    );
+    let rest = command_or(
+        member == Command::GET_BY_INDEX,
+        Command::GetEntries(Filter::Index),
+        rest,
+    );
+    let rest = command_or(member == Command::END_SESSION, Command::EndSession, rest);
+    command_or(member == Command::START_SESSION, Command::StartSession, rest)
+}
+
+// .. and what changes them, in the same way.
 fn bind_command(member: u8) -> Decoded
     ensures { λ r. ⌜ r ≡ bindCommand member ⌝ }
 {
-    let rest = Decoded::NotServed;
+    let rest = read_command(member);
     let rest = command_or(
         member == Command::REMOVE_BY_DESTINATION_UNIT,
         Command::RemoveBinds(BindPart::DestinationUnit),
@@ -54,7 +90,7 @@ fn bind_command(member: u8) -> Decoded
     command_or(member == Command::ADD_BIND, Command::AddBind, rest)
 }
 
-// Group Management, by member, in the same way.
+// Group Management, by member, likewise.
 fn group_command(member: u8) -> Decoded
     ensures { λ r. ⌜ r ≡ groupCommand member ⌝ }
 {
@@ -107,6 +143,16 @@ fn length_with_name(command: Command, payload: &[u8]) -> usize
     1 + payload[0] as usize
 }
 
+// The length of a read's payload: an index of two octets and a number, or the part of a bind that it names.
+fn filter_length(filter: Filter) -> usize
+    ensures { λ r. ⌜ r ≡ filterLength filter ⌝ }
+{
+    match filter {
+        Filter::Index => 3,
+        Filter::Part(part) => bind_records::part_length(part),
+    }
+}
+
 fn asking(rights: bool, length: usize) -> Asked
     ensures rights { λ r. ⌜ r .rights ≡ rights ⌝ }
     ensures length { λ r. ⌜ r .length ≡ length ⌝ }
@@ -117,7 +163,7 @@ fn asking(rights: bool, length: usize) -> Asked
     }
 }
 
-// What a command asks: the sender's rights, but for Get Group Info, and the length of this payload.
+// What a command asks: the sender's rights, but for Get Group Info, End and the reads, and the length of this payload.
 pub fn demands(command: Command, payload: &[u8]) -> Asked
     ensures rights { λ r. ⌜ r .rights ≡ row command .rights ⌝ }
     ensures length { λ r. ⌜ r .length ≡ row command .length (now (payload .entry)) ⌝ }
@@ -125,6 +171,9 @@ pub fn demands(command: Command, payload: &[u8]) -> Asked
     match command {
         Command::AddBind => asking(true, layouts::BIND),
         Command::RemoveBinds(part) => asking(true, bind_records::part_length(part)),
+        Command::StartSession => asking(true, 0),
+        Command::EndSession => asking(false, 0),
+        Command::GetEntries(filter) => asking(false, filter_length(filter)),
         Command::CreateGroup => asking(true, length_with_name(command, payload)),
         Command::DeleteGroup => asking(true, layouts::ADDRESS),
         Command::AddToGroup => asking(true, layouts::MEMBER),

@@ -8,11 +8,11 @@ use device_records::ZERO;
 use words::DeviceAddress;
 use words::Kind;
 ghost use Rattle.words.specs.Basics.{_≡_, _+_, _<_, _≤_, eqb, length, drop};
-ghost use Rattle.rules.specs.Types.{Devices, Groups};
+ghost use Rattle.rules.specs.Types.{Devices, Groups, Sessions};
 ghost use Rattle.rules.specs.Lists.{all};
 ghost use Rattle.rules.specs.Layout.{size, unitsLength, namePadding};
 ghost use Rattle.rules.specs.Frame.{table};
-ghost use Rattle.rules.specs.Sound.{addressFits, deviceInRange, deviceFits, groupFits, memberFits, fits};
+ghost use Rattle.rules.specs.Sound.{addressFits, deviceInRange, deviceFits, groupFits, memberFits, sessionFits, fits};
 
 // Is this an address that a device or a group may have?
 pub fn address_fits(address: u16) -> bool
@@ -74,6 +74,14 @@ pub fn member_fits(member: [u8; 5], devices: &[u8], groups: &[u8]) -> bool
     group_there & unit_there
 }
 
+// "each admitted or D'0000": the device that a session's record names.
+fn session_fits(rec: &[u8], devices: &[u8]) -> bool
+    requires { ⌜ length (now rec) ≡ size Sessions ⌝ }
+    ensures { λ r. ⌜ r ≡ sessionFits (table Devices (now (devices .entry))) (now (rec .entry)) ⌝ }
+{
+    existing::device_exists(devices, DeviceAddress(octets::word_at(rec, 0)))
+}
+
 // A used record of a table, by the table's rule.
 pub fn fits(kind: Kind, rec: &[u8], devices: &[u8], groups: &[u8]) -> bool
     requires { ⌜ length (now rec) ≡ size kind ⌝ }
@@ -84,5 +92,6 @@ pub fn fits(kind: Kind, rec: &[u8], devices: &[u8], groups: &[u8]) -> bool
         Kind::Binds => bind_fits(bind_records::bind_at(rec, 0), devices, groups),
         Kind::Groups => group_fits(rec),
         Kind::Members => member_fits(layouts::member_at(rec, 0), devices, groups),
+        Kind::Sessions => session_fits(rec, devices),
     }
 }

@@ -1,11 +1,11 @@
 -- Laws of Delete Group, by what was found.
-use Rattle.words.specs.Basics.{_≡_, true, false, List, ℕ, _+_, _*_}
+use Rattle.words.specs.Basics.{_≡_, Bool, true, false, List, ℕ, _+_, _*_}
 use Rattle.words.specs.Names.{flagSet, ok, invalidArgument}
 use Rattle.words.specs.declared.BindPart.the-variants.{Destination}
 use Rattle.rules.specs.Types.{GroupAddress, Binds, Groups, Members}
-use Rattle.rules.specs.Lists.{ask}
+use Rattle.rules.specs.Lists.{any, ask}
 use Rattle.rules.specs.Octets.{octets, joined}
-use Rattle.rules.specs.Tables.{matches, addressed, wipe, written}
+use Rattle.rules.specs.Tables.{Rec, used, matches, addressed, wipe, written}
 use Rattle.rules.specs.Layout.{size, partStart, partIs, toThisGroup, inGroup}
 use Rattle.rules.specs.Frame.{table}
 use Rattle.rules.specs.Exists.{groupExists}
@@ -22,6 +22,11 @@ pub binds-freed : (g : GroupAddress) (t : List ℕ) {f : ℕ} {w t' : List ℕ} 
     → t' ≡ written (size Binds) (wipe (matches (partStart Destination) w)) t → t' ≡ written (size Binds) (wipe (toThisGroup g)) t
 unfolding joined partIs
 binds-freed g t e d h = rw (d, e) at h
+
+pub bound-found : (g : GroupAddress) (t : List Rec) {f : ℕ} {w : List ℕ} {b : Bool} → f ≡ flagSet * 32768 + g .0 → w ≡ octets f
+    → b ≡ any (matches (partStart Destination) w) (used t) → b ≡ any (toThisGroup g) (used t)
+unfolding joined partIs
+bound-found g t e d h = rw (d, e) at h
 
 -- .. by what was found
 

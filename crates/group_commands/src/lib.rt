@@ -9,9 +9,9 @@ use words::GroupAddress;
 ghost use Rattle.words.specs.Basics.{_≡_, _%_, _<_, length};
 ghost use Rattle.words.specs.Names.{invalidArgument};
 ghost use Rattle.rules.specs.Types.{Devices, Binds, Groups, Members};
-ghost use Rattle.rules.specs.Lists.{ask};
+ghost use Rattle.rules.specs.Lists.{ask, any};
 ghost use Rattle.rules.specs.Octets.{octets};
-ghost use Rattle.rules.specs.Tables.{matches, addressed, store, wipe, written};
+ghost use Rattle.rules.specs.Tables.{used, matches, addressed, store, wipe, written};
 ghost use Rattle.rules.specs.Layout.{addressLength, size, toThisGroup, inGroup};
 ghost use Rattle.rules.specs.Frame.{table};
 ghost use Rattle.rules.specs.Sound.{memberFits};
@@ -19,6 +19,16 @@ ghost use Rattle.rules.specs.Payloads.{memberOf, groupNamed};
 ghost use Rattle.rules.specs.Commands.{addition, removal};
 ghost use Rattle.changing.specs.Changing.{coded, coding};
 ghost use Rattle.group_commands.specs.Grouping.{deleted, deleting};
+
+// Is there a bind to the group that the payload names?
+pub fn is_bound(binds: &[u8], payload: &[u8]) -> bool
+    requires { ⌜ length (now payload) ≡ addressLength ⌝ }
+    ensures { λ r. ⌜ r ≡ any (toThisGroup (groupNamed (now (payload .entry)))) (used (table Binds (now (binds .entry)))) ⌝ }
+{
+    let group = payloads::group_named(payload);
+    let flagged = layouts::address_octets(octets::flagged(Fields::SET, group.0));
+    records::has(binds, BIND, DESTINATION, &flagged)
+}
 
 // Delete Group takes the group, its members and the binds to it.
 fn free_group(binds: &mut [u8], groups: &mut [u8], members: &mut [u8], group: GroupAddress)

@@ -23,6 +23,8 @@ pub const GROUP: usize = 16;
 
 pub const MEMBER: usize = 5;
 
+pub const SESSION: usize = 2;
+
 // How many records there may be in each.
 pub const MOST_DEVICES: usize = 64;
 
@@ -31,6 +33,8 @@ pub const MOST_BINDS: usize = 64;
 pub const MOST_GROUPS: usize = 16;
 
 pub const MOST_MEMBERS: usize = 128;
+
+pub const MOST_SESSIONS: usize = 8;
 
 // The octets of an address.
 pub const ADDRESS: usize = 2;
@@ -77,6 +81,11 @@ pub fn shape_of(kind: Kind) -> Shape
             size: MEMBER,
             most: MOST_MEMBERS,
             key: MEMBER,
+        },
+        Kind::Sessions => Shape {
+            size: SESSION,
+            most: MOST_SESSIONS,
+            key: ADDRESS,
         },
     }
 }

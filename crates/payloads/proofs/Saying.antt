@@ -1,9 +1,11 @@
 -- Payloads octet by octet.
 use lib.Seq.{take-append-seam}
-use Rattle.words.specs.Basics.{_≡_, refl, sym, ap, _∙_, List, [], _∷_, _++_, ℕ, zero, suc, _+_, _*_, _%_, _<_, _≤_, arith, length, take, drop, getD, set}
+use Rattle.words.specs.Basics.{_≡_, refl, sym, ap, _∙_, Bool, true, false, cond, eqb, List, [], _∷_, _++_, ℕ, zero, suc, _+_, _*_, _%_, _<_, _≤_, arith, length, take, drop, getD, set}
 use Rattle.words.specs.Basics.{drop-of-length-le, drop-cons}
 use Rattle.rules.specs.Octets.{word, ignoreTop, over}
-use Rattle.rules.specs.Payloads.{bindOf, memberOf, groupNamed}
+use Rattle.rules.specs.Types.{BindPart, Source}
+use Rattle.rules.specs.Layout.{partStart}
+use Rattle.rules.specs.Payloads.{bindOf, wanted, memberOf, groupNamed}
 use Rattle.words.specs.Names.{group}
 
 -- n octets from place i on, one by one
@@ -36,8 +38,13 @@ pub group-octets : (p : List ℕ) → length p ≡ 2 → group (getD p 0 0 % 128
 unfolding groupNamed word
 group-octets p h = sym (rw (ignore-first p (omega arith), one-by-one 1 1 p (omega arith)))
 
--- the payload in the first places of a longer run, its first octet without the top bit
-pub first-ignored : (p old : List ℕ) → 0 < length p → take (length p) (set (over p old) 0 (getD p 0 0 % 128)) ≡ ignoreTop p
-unfolding over ignoreTop
-first-ignored [] old h = absurd (omega arith)
-first-ignored (o ∷ p) old h = ap (λ (s : List ℕ). o % 128 ∷ s) (take-append-seam p (drop (suc (length p)) old))
+-- the payload in the first places of a longer run, with the first octet that a part wants
+pub first-set : (q : BindPart) (p old : List ℕ) {first : ℕ} → 0 < length p
+    → first ≡ cond (eqb (partStart q) (partStart Source)) (getD p 0 0 % 128) (getD p 0 0) → take (length p) (set (over p old) 0 first) ≡ wanted q p
+unfolding over wanted ignoreTop
+first-set q [] old h e = absurd (omega arith)
+first-set q (o ∷ p) old {first} h e = ap (λ (s : List ℕ). first ∷ s) (take-append-seam p (drop (suc (length p)) old)) ∙ rw e (wants (eqb (partStart q) 0))
+  where
+    wants : (b : Bool) → cond b (o % 128) o ∷ p ≡ cond b (o % 128 ∷ p) (o ∷ p)
+    wants true = refl
+    wants false = refl

@@ -1,10 +1,11 @@
 // What a payload says (document 01, Tables): the top bit of a source, a group's or a member's address is ignored, and stored as 0.
+use bind_records::SOURCE;
+use words::BindPart;
 use words::GroupAddress;
-ghost use Rattle.words.specs.Basics.{_≡_, _<_, _≤_, length, take};
-ghost use Rattle.rules.specs.Types.{Binds, Members};
-ghost use Rattle.rules.specs.Octets.{ignoreTop};
-ghost use Rattle.rules.specs.Layout.{size, addressLength};
-ghost use Rattle.rules.specs.Payloads.{bindOf, memberOf, groupNamed};
+ghost use Rattle.words.specs.Basics.{_≡_, cond, _%_, _<_, eqb, length, take};
+ghost use Rattle.rules.specs.Types.{Source, Binds, Members};
+ghost use Rattle.rules.specs.Layout.{size, addressLength, partStart, partLength};
+ghost use Rattle.rules.specs.Payloads.{bindOf, wanted, memberOf, groupNamed};
 
 // The bind of a payload: its eight octets, the source's top bit 0.
 pub fn bind_of(payload: &[u8]) -> [u8; 8]
@@ -45,13 +46,23 @@ pub fn group_named(payload: &[u8]) -> GroupAddress
     GroupAddress(octets::join(octets::low_seven(payload[0]), payload[1]))
 }
 
-// The octets that a removal by source looks for: the payload's, its top bit 0, in the first places of eight.
-pub fn source_wanted(payload: &[u8]) -> [u8; 8]
-    requires { ⌜ (1 ≤ length (now payload)) × (length (now payload) ≤ size Binds) ⌝ }
-    ensures { λ r. ⌜ take (length (now (payload .entry))) r ≡ ignoreTop (now (payload .entry)) ⌝ }
+// The first octet that a removal or a read looks for: a source's top bit is ignored, a destination's is its flag.
+fn first_wanted(part: BindPart, first: u8) -> u8
+    ensures { λ r. ⌜ r ≡ cond (eqb (partStart part) (partStart Source)) (first % 128) first ⌝ }
+{
+    if bind_records::part_start(part) == SOURCE {
+        return octets::low_seven(first);
+    }
+    first
+}
+
+// The octets that a removal or a read by this part looks for: the payload's, in the first places of eight.
+pub fn wanted(part: BindPart, payload: &[u8]) -> [u8; 8]
+    requires { ⌜ length (now payload) ≡ partLength part ⌝ }
+    ensures { λ r. ⌜ take (length (now (payload .entry))) r ≡ wanted part (now (payload .entry)) ⌝ }
 {
     let mut want = [0u8; 8];
     octets::put(&mut want, payload);
-    want[0] = octets::low_seven(payload[0]);
+    want[0] = first_wanted(part, payload[0]);
     want
 }

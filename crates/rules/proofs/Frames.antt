@@ -1,7 +1,7 @@
 -- Laws of the frame of all tables: what holds of each kind is said once. Which tables there are is used in this file alone.
 use mathlib.Core.Path.{fun-ext}
 use Rattle.words.specs.Basics.{_≡_, refl, sym, ap, _∙_, Bool, true, false, cond, List, ℕ, _<_, _≤_, arith, eqb, leb, length, getD, eqb-true, leb-true}
-use Rattle.rules.specs.Types.{Kind, Devices, Binds, Groups, Members}
+use Rattle.rules.specs.Types.{Kind, Devices, Binds, Groups, Members, Sessions}
 use Rattle.rules.specs.Lists.{all, _&_}
 use Rattle.rules.specs.Tables.{Change, none, written}
 use Rattle.rules.specs.Layout.{size, key, full}
@@ -17,6 +17,7 @@ listed Devices = (omega arith, refl)
 listed Binds = (omega arith, refl)
 listed Groups = (omega arith, refl)
 listed Members = (omega arith, refl)
+listed Sessions = (omega arith, refl)
 
 same-kind : (j k : Kind) → eqb (place j) (place k) ≡ true → j ≡ k
 same-kind j k e = sym (listed j .1) ∙ ap kindAt (eqb-true (place j) (place k) e) ∙ listed k .1
@@ -45,6 +46,7 @@ lent-by t Devices = refl
 lent-by t Binds = refl
 lent-by t Groups = refl
 lent-by t Members = refl
+lent-by t Sessions = refl
 
 -- what holds of a and b for the table k, and of x and y for every table, holds of a beside x and b beside y
 pub also-both : {A B : Type 0} (P : Kind → A → B → Type 0) (k : Kind) (a : A) (b : B) (x : Kind → A) (y : Kind → B)

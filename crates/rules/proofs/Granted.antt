@@ -1,30 +1,33 @@
 -- Every command answered 0x00 changes the tables in order, and changes them as the history's entries say.
 use Rattle.words.specs.Basics.{_≡_, refl, sym, ap, _∙_, Bool, true, false, cond, false≢true, List, ℕ, _+_, _*_, _<_, _≤_, arith, length, take, take-all}
+use Rattle.words.specs.Basics.{_||_}
 use Rattle.words.specs.Basics.{eqb, not-true, eq-eqb, eqb-true, leb-true}
-use Rattle.words.specs.Names.{code, ok, notAuthorized, invalidArgument, notEnoughResources}
-use Rattle.rules.specs.Types.{DeviceAddress, GroupAddress, Code, Command, AddBind, RemoveBinds, CreateGroup, DeleteGroup, AddToGroup, RemoveFromGroup}
-use Rattle.rules.specs.Types.{GetGroupInfo, Kind, Devices, Binds, Groups, Members}
+use Rattle.words.specs.Names.{code, ok, notAuthorized, invalidArgument, noReadSession, notEnoughResources}
+use Rattle.rules.specs.Types.{DeviceAddress, GroupAddress, Code, Command, AddBind, RemoveBinds, StartSession, EndSession, GetEntries, CreateGroup}
+use Rattle.rules.specs.Types.{DeleteGroup, AddToGroup, RemoveFromGroup, GetGroupInfo, Kind, Devices, Binds, Groups, Members, Sessions}
 use Rattle.rules.specs.Lists.{any, ask, _&_}
 use Rattle.rules.specs.Octets.{octet, octets, octetString}
 use Rattle.rules.specs.Tables.{Rec, used, someFree, matches, addressed, Change, none, store, wipe}
-use Rattle.rules.specs.Layout.{size, key, longestName, memberGroup, toGroup, boundGroup, groupRecord, toThisGroup, inGroup}
+use Rattle.rules.specs.Layout.{size, key, longestName, memberGroup, toGroup, boundGroup, groupRecord, toThisGroup, inGroup, sessionRecord}
 use Rattle.rules.specs.Frame.{Lent, Tables, tables, also, Effect, nothing, only}
-use Rattle.rules.specs.Exists.{groupExists}
-use Rattle.rules.specs.Sound.{wholeRecords, fits, sound}
+use Rattle.rules.specs.Exists.{admitted, deviceExists, mayCommand, hasRights, groupExists}
+use Rattle.rules.specs.Sound.{wholeRecords, deviceFits, sessionFits, fits, soundTable, sound}
 use Rattle.rules.specs.Payloads.{bindOf, memberOf, groupNamed}
-use Rattle.rules.specs.Commands.{addition, naming, creation, newGroup, row, payloadFits, judge}
+use Rattle.rules.specs.Sessions.{inSession, alters, closing}
+use Rattle.rules.specs.Commands.{addition, naming, opening, creation, newGroup, row, rightsFit, payloadFits, judge}
 use Rattle.rules.specs.History.{Entry, Entries, hasPage, silence, groupSaid, lines}
-use Rattle.rules.proofs.Lists.{never, split, join}
+use Rattle.rules.proofs.Lists.{never, split, join, any-weaken, any-with}
 use Rattle.rules.proofs.Frames.{also-all, also-both}
 use Rattle.rules.proofs.Records.{length-records}
-use Rattle.rules.proofs.Words.{shaped, addressed-word, to-group, apart}
+use Rattle.rules.proofs.Words.{shaped, addressed-word, word-of, to-group, apart}
 use Rattle.rules.proofs.Numbers.{bind-said, group-said, member-said, bind-named, member-named}
 use Rattle.rules.proofs.Changes.{Storable, New, spares}
 use Rattle.rules.proofs.Distinct.{lone}
 use Rattle.rules.proofs.Fresh.{new-low, new-high, new-fresh}
-use Rattle.rules.proofs.Kept.{Sane, InOrder, Ok, order-none, order-wipe, whole-at, bind-kept, member-kept, ok-nothing}
+use Rattle.rules.proofs.Kept.{Sane, InOrder, Ok, order-none, order-wipe, sound-at, whole-at, bind-kept, member-kept, session-kept, ok-nothing}
 use Rattle.rules.proofs.Standing.{Says, says-nothing, says-stored, says-withdrawn}
-use Rattle.rules.proofs.Stored.{Stored, bind-stored, member-stored, named-small, group-stored, group-meets}
+use Rattle.rules.proofs.Stored.{Stored, bind-stored, member-stored, named-small, group-stored, group-meets, device-high, session-stored, session-key}
+use Rattle.rules.proofs.Stored.{session-device}
 
 -- a check that a command answered 0x00 passed
 pub pass : {b : Bool} {c rest : Code} → (c ≡ ok → ⊥) → ask b c rest ≡ ok → (b ≡ true) × (rest ≡ ok)
@@ -39,14 +42,17 @@ pass {b} {c} {rest} n h = step b h
 not-ok : (n : ℕ) → (n ≡ 0 → ⊥) → code n ≡ ok → ⊥
 not-ok n z e = z (ap (λ (c : Code). c .0) e)
 
-invalid : invalidArgument ≡ ok → ⊥
+pub invalid : invalidArgument ≡ ok → ⊥
 invalid = not-ok 0x02 (λ z. omega arith)
 
 full : notEnoughResources ≡ ok → ⊥
 full = not-ok 0xFE (λ z. omega arith)
 
-unauthorized : notAuthorized ≡ ok → ⊥
+pub unauthorized : notAuthorized ≡ ok → ⊥
 unauthorized = not-ok 0x01 (λ z. omega arith)
+
+pub no-session : noReadSession ≡ ok → ⊥
+no-session = not-ok 0x20 (λ z. omega arith)
 
 -- What a call does is what the history says of it
 
@@ -68,6 +74,29 @@ pub told-apart : (k : Kind) (c : Change) {x : Effect} {e : Entries} → hasPage 
 told-apart k c {x} {e} n t =
     record { page = also-all (λ j d. hasPage j ≡ true → Says (size j) d (e j)) k c x (λ h. absurd (false≢true (sym n ∙ h))) (t .page) }
 
+-- Devices that are there
+
+-- an admitted device has an address of 15 bits
+pub admitted-small : (L : Lent) (d : DeviceAddress) → Sane L → admitted (tables L Devices) d ≡ true → d .0 < 32768
+unfolding admitted soundTable fits
+admitted-small L d S h = any-with (addressed (d .0)) deviceFits small (used (tables L Devices)) h (split (split (sound-at L (S .sound) Devices) .0) .1)
+  where
+    small : (r : Rec) → addressed (d .0) r ≡ true → deviceFits r ≡ true → d .0 < 32768
+    small r e f = omega (arith, word-of (d .0) r e, device-high r f)
+
+-- one that has rights exists, and has such an address
+with-rights : (L : Lent) (d : DeviceAddress) → Sane L → hasRights (tables L Devices) d ≡ true
+    → (deviceExists (tables L Devices) d ≡ true) × (d .0 < 32768)
+unfolding hasRights deviceExists admitted mayCommand
+with-rights L d S h = step (eqb (d .0) 0) refl h
+  where
+    step : (b : Bool) → eqb (d .0) 0 ≡ b → cond b true (any (mayCommand d) (used (tables L Devices))) ≡ true
+        → (cond b true (admitted (tables L Devices) d) ≡ true) × (d .0 < 32768)
+    step true e h = (refl, omega (arith, eqb-true (d .0) 0 e))
+    step false e h =
+        let a : admitted (tables L Devices) d ≡ true = any-weaken (mayCommand d) (addressed (d .0)) (λ r m. split m .0) (used (tables L Devices)) h in
+        (a, admitted-small L d S a)
+
 -- Changes in order
 
 -- where no device and no group goes
@@ -79,6 +108,7 @@ ok-adding L x o d g = record {
   order = o;
   binds = λ b s w h. bind-kept (x Devices) (x Groups) _ _ (o Devices .room) (o Groups .room) b (λ r e. d r) (λ t r e. d r) (λ t r e. g r) h;
   members = λ m s w h. member-kept (x Devices) (x Groups) _ _ (o Devices .room) (o Groups .room) m (λ r e. d r) (λ r e. g r) h;
+  sessions = λ m s w h. session-kept (x Devices) _ m (o Devices .room) (λ r e. d r) h;
 }
 
 -- one table changes, in order
@@ -107,12 +137,33 @@ order-added k L r e s v =
     let n = eqb-true (length r) (size k) (split (s .shape) .0) in
     order-store k L r r (rw e (take-all (size k) r (omega arith))) c.0 s a.0 (not-true _ b.0)
 
+-- "any change to the bind table closes all sessions": what is in order and told stays so, since sessions have no page
+
+module _ (T : Tables) {x : Effect} where
+  -- what holds of the effect, and of it with all sessions closed, holds of the effect that closes them
+  pub closing-all : (P : Effect → Type 0) → P x → P (also Sessions (wipe (λ r. true)) x) → P (closing T x)
+  unfolding closing
+  closing-all P h g = elim (alters (x Binds) (T Binds)) as (λ b. P (cond b (also Sessions (wipe (λ r. true)) x) x)) [ true ↦ g | false ↦ h ]
+
+  pub told-closing : {e : Entries} → Told x e → Told (closing T x) e
+  unfolding hasPage
+  told-closing {e} t = closing-all (λ y. Told y e) t (told-apart Sessions _ refl t)
+
+  pub ok-closing : {L : Lent} → Ok L x → Ok L (closing T x)
+  unfolding also spares
+  ok-closing {L} o = closing-all (Ok L) o (record {
+    order = orders-wipe Sessions L _ x (o .order);
+    binds = o .binds;
+    members = o .members;
+    sessions = λ r s w h. absurd (false≢true w);
+  })
+
 -- Each command
 
 -- what is known of a command answered 0x00
-pub record Granted (L : Lent) (k : Command) (p : List ℕ) : Type 0 where
-  pub ok : Ok L (row k .effect (tables L) p)
-  pub told : Told (row k .effect (tables L) p) (lines k p)
+pub record Granted (L : Lent) (s : DeviceAddress) (k : Command) (p : List ℕ) : Type 0 where
+  pub ok : Ok L (row k .effect (tables L) s p)
+  pub told : Told (row k .effect (tables L) s p) (lines k p)
 
 module _ (L : Lent) (p : List ℕ) (o : octetString p ≡ true) where
   ok-binds : (c : Change) → InOrder Binds L c → Ok L (only Binds c)
@@ -122,6 +173,26 @@ module _ (L : Lent) (p : List ℕ) (o : octetString p ≡ true) where
   ok-members : (c : Change) → InOrder Members L c → Ok L (only Members c)
   unfolding spares nothing also
   ok-members c i = ok-adding L (only Members c) (orders-only Members L c i) (λ r. refl) (λ r. refl)
+
+  ok-sessions : (c : Change) → InOrder Sessions L c → Ok L (only Sessions c)
+  unfolding spares nothing also
+  ok-sessions c i = ok-adding L (only Sessions c) (orders-only Sessions L c i) (λ r. refl) (λ r. refl)
+
+  -- a session that is opened takes the first free record, where its device has none
+  ok-start : (s : DeviceAddress) → Sane L → hasRights (tables L Devices) s ≡ true → opening s (tables L Sessions) ≡ ok
+      → Ok L (row StartSession .effect (tables L) s p)
+  unfolding opening inSession addressed fits sessionFits
+  ok-start s S a v = step (inSession (tables L Sessions) s) refl (pass full v .0)
+    where
+      new : inSession (tables L Sessions) s ≡ false → someFree (tables L Sessions) ≡ true → InOrder Sessions L (store (sessionRecord s))
+      new e f =
+          let w = with-rights L s S a in
+          order-store Sessions L (sessionRecord s) (octets (s .0)) (session-key s) f (session-stored s w.1) (rw (session-device s) (w.0)) e
+
+      step : (b : Bool) → inSession (tables L Sessions) s ≡ b → (b || someFree (tables L Sessions)) ≡ true
+          → Ok L (cond b nothing (only Sessions (store (sessionRecord s))))
+      step true e f = ok-nothing L
+      step false e f = ok-sessions _ (new e f)
 
   few-groups : Sane L → length (tables L Groups) ≤ 16
   unfolding wholeRecords
@@ -165,6 +236,7 @@ module _ (L : Lent) (p : List ℕ) (o : octetString p ≡ true) where
     members = λ m s w h. member-kept none (wipe (addressed (g .0))) _ _ tt tt m (λ x e. refl)
         (λ x e. apart (memberGroup m .0) (g .0) x
         (λ z. never _ w (addressed-word (size Members) (g .0) m (omega arith) s ∙ eq-eqb (memberGroup m .0) (g .0) z)) e) h;
+    sessions = λ m s w h. session-kept none _ m tt (λ x e. refl) h;
   }
 
   told-delete : Told deletes (lines DeleteGroup p)
@@ -177,35 +249,48 @@ module _ (L : Lent) (p : List ℕ) (o : octetString p ≡ true) where
       said : g .0 ≡ groupSaid p .0
       said = ap (λ (g : GroupAddress). g .0) (group-said p o)
 
-  granted-by : (k : Command) → Sane L → length p ≡ row k .length p → row k .verdict (tables L) p ≡ ok → Granted L k p
-  unfolding lines fits silence hasPage
-  granted-by AddBind S l v =
+  told-start : (s : DeviceAddress) → Told (row StartSession .effect (tables L) s p) silence
+  unfolding hasPage
+  told-start s =
+      elim (inSession (tables L Sessions) s) as (λ b. Told (cond b nothing (only Sessions (store (sessionRecord s)))) silence)
+      [ true ↦ told-nothing | false ↦ told-apart Sessions _ refl told-nothing ]
+
+  granted-by : (s : DeviceAddress) (k : Command) → Sane L → rightsFit (tables L Devices) s k ≡ true → length p ≡ row k .length p
+      → row k .verdict (tables L) s p ≡ ok → Granted L s k p
+  unfolding lines fits silence hasPage rightsFit
+  granted-by s AddBind S a l v =
       record {
         ok = ok-binds _ (order-added Binds L (bindOf p) refl (bind-stored p l o) v);
         told = told-also Binds (says-stored (bind-said p o l)) told-nothing;
       }
-  granted-by (RemoveBinds q) S l v =
+  granted-by s (RemoveBinds q) S a l v =
       record { ok = ok-binds _ (order-wipe Binds L _); told = told-also Binds (says-withdrawn (bind-named p o q l)) told-nothing }
-  granted-by CreateGroup S l v =
+  granted-by s StartSession S a l v =
+      record { ok = ok-start s S a v; told = told-start s }
+  granted-by s EndSession S a l v =
+      record { ok = ok-sessions _ (order-wipe Sessions L _); told = told-apart Sessions _ refl told-nothing }
+  granted-by s (GetEntries f) S a l v =
+      record { ok = ok-nothing L; told = told-nothing }
+  granted-by s CreateGroup S a l v =
       record { ok = ok-create S l v; told = told-apart Groups _ refl told-nothing }
-  granted-by DeleteGroup S l v =
+  granted-by s DeleteGroup S a l v =
       record { ok = ok-delete; told = told-delete }
-  granted-by AddToGroup S l v =
+  granted-by s AddToGroup S a l v =
       record {
         ok = ok-members _ (order-added Members L (memberOf p) refl (member-stored p l o) v);
         told = told-also Members (says-stored (member-said p o l)) told-nothing;
       }
-  granted-by RemoveFromGroup S l v =
+  granted-by s RemoveFromGroup S a l v =
       record { ok = ok-members _ (order-wipe Members L _); told = told-also Members (says-withdrawn (member-named p o l)) told-nothing }
-  granted-by GetGroupInfo S l v =
+  granted-by s GetGroupInfo S a l v =
       record { ok = ok-nothing L; told = told-nothing }
 
-  pub granted-command : (s : DeviceAddress) (k : Command) → Sane L → judge (tables L) s k p ≡ ok → Granted L k p
+  pub granted-command : (s : DeviceAddress) (k : Command) → Sane L → judge (tables L) s k p ≡ ok → Granted L s k p
   unfolding judge payloadFits
   granted-command s k S j =
       let a = pass unauthorized j in
       let b = pass invalid a.1 in
-      granted-by k S (eqb-true (length p) (row k .length p) b.0) b.1
+      granted-by s k S a.0 (eqb-true (length p) (row k .length p) b.0) b.1
 
 -- Get Group Info is answered 0x00 only of a group that exists
 pub info-granted : (T : Tables) (s : DeviceAddress) (p : List ℕ) → judge T s GetGroupInfo p ≡ ok → groupExists (T Groups) (groupNamed p) ≡ true

@@ -1,23 +1,25 @@
 -- The host calls: admit and release, where they do something, change the tables in order and as the history's entries say.
 use Rattle.words.specs.Basics.{_≡_, refl, _∙_, Bool, true, false, cond, not, _||_, List, ℕ, _<_, arith, eqb, not-true, eq-eqb}
 use Rattle.words.specs.Outcomes.{numberOf, valueOf}
-use Rattle.rules.specs.Types.{DeviceAddress, Devices, Binds, Members, Outcome, Done, Unsound, OutOfRange, AlreadyAdmitted, NoFreeRecord, NotAdmitted}
+use Rattle.rules.specs.Types.{DeviceAddress, Devices, Binds, Members, Sessions, Outcome, Done, Unsound, OutOfRange, AlreadyAdmitted, NoFreeRecord, NotAdmitted}
 use Rattle.rules.specs.Lists.{ask, _&_}
 use Rattle.rules.specs.Octets.{octets}
 use Rattle.rules.specs.Tables.{Rec, used, someFree, addressed, none, wipe}
 use Rattle.rules.specs.Layout.{size, unitsLength, partIs, deviceRecord, bindSource, boundDevice, toGroup, memberDevice, fromDevice, toDevice}
+use Rattle.rules.specs.Layout.{sessionDevice}
 use Rattle.rules.specs.Frame.{Lent, tables, also, Effect, nothing}
 use Rattle.rules.specs.Exists.{admitted}
 use Rattle.rules.specs.Sound.{deviceInRange, deviceFits, fits, soundTable, sound}
-use Rattle.rules.specs.Host.{settled, admitting, admission, admit, namesDevice, releasing, release}
-use Rattle.rules.specs.History.{Entries, admits, releases, entries}
+use Rattle.rules.specs.Host.{settled, admitting, admission, admit, namesDevice, taking, releasing, release}
+use Rattle.rules.specs.History.{Entries, hasPage, admits, releases, entries}
 use Rattle.rules.proofs.Lists.{never, or-parts, split, join, any-with}
 use Rattle.rules.proofs.Words.{shaped, matches-word, addressed-word, word-of, to-device, apart}
 use Rattle.rules.proofs.Changes.{Storable, spares}
-use Rattle.rules.proofs.Kept.{sound-at, Sane, Ok, order-wipe, bind-kept, member-kept}
+use Rattle.rules.proofs.Kept.{sound-at, Sane, Ok, order-wipe, bind-kept, member-kept, session-kept}
 use Rattle.rules.proofs.Standing.{says-added, says-withdrawn}
 use Rattle.rules.proofs.Stored.{device-stored, device-meets, device-fields, device-high}
-use Rattle.rules.proofs.Granted.{orders-only, orders-wipe, ok-adding, order-store, Told, told-nothing, told-also}
+use Rattle.rules.proofs.Granted.{admitted-small, orders-only, orders-wipe, ok-adding, order-store, ok-closing, Told, told-nothing, told-also}
+use Rattle.rules.proofs.Granted.{told-apart, told-closing}
 
 -- the outcome of a host call: 0, with this change in order and as these entries say, or a refusal
 pub data Hosted (L : Lent) (x : Effect) (e : Entries) : Outcome → Type 0 where
@@ -57,14 +59,6 @@ module _ (L : Lent) (d : DeviceAddress) (a : ℕ) (us : List ℕ) where
 
 -- Release
 
--- an admitted device has an address of 15 bits
-admitted-small : (L : Lent) (d : DeviceAddress) → Sane L → admitted (tables L Devices) d ≡ true → d .0 < 32768
-unfolding admitted soundTable fits
-admitted-small L d S h = any-with (addressed (d .0)) deviceFits small (used (tables L Devices)) h (split (split (sound-at L (S .sound) Devices) .0) .1)
-  where
-    small : (r : Rec) → addressed (d .0) r ≡ true → deviceFits r ≡ true → d .0 < 32768
-    small r e f = omega (arith, word-of (d .0) r e, device-high r f)
-
 module _ (L : Lent) (d : DeviceAddress) (small : d .0 < 32768) where
   from-device : (b : Rec) → shaped (size Binds) b ≡ true → fromDevice d b ≡ eqb (bindSource b .0) (d .0)
   unfolding partIs
@@ -75,17 +69,17 @@ module _ (L : Lent) (d : DeviceAddress) (small : d .0 < 32768) where
   unfolding namesDevice
   names-device b s = rw (from-device b s, to-device d b small s)
 
-  told-release : Told (releasing d) (entries (releases d))
-  unfolding releasing entries
-  told-release =
+  told-taking : Told (taking d) (entries (releases d))
+  unfolding taking entries hasPage
+  told-taking =
       told-also Devices (says-withdrawn (λ r s. addressed-word (size Devices) (d .0) r (omega arith) s))
       (told-also Members (says-withdrawn (λ r s. matches-word (size Members) 2 (d .0) r (omega arith) s))
-      (told-also Binds (says-withdrawn names-device) told-nothing))
+      (told-apart Sessions _ refl (told-also Binds (says-withdrawn names-device) told-nothing)))
 
-  ok-release : Ok L (releasing d)
-  unfolding releasing namesDevice nothing also spares fits Storable
-  ok-release = record {
-    order = orders-wipe Devices L _ _ (orders-wipe Members L _ _ (orders-only Binds L _ (order-wipe Binds L _)));
+  ok-taking : Ok L (taking d)
+  unfolding taking namesDevice nothing also spares fits Storable
+  ok-taking = record {
+    order = orders-wipe Devices L _ _ (orders-wipe Members L _ _ (orders-wipe Sessions L _ _ (orders-only Binds L _ (order-wipe Binds L _))));
     binds = λ b s w h.
         let n = or-parts (fromDevice d b) (toDevice d b) (not-true _ w) in
         bind-kept (wipe (addressed (d .0))) none _ _ tt tt b
@@ -96,12 +90,17 @@ module _ (L : Lent) (d : DeviceAddress) (small : d .0 < 32768) where
         (λ x e. apart (memberDevice m .0) (d .0) x
         (λ z. never _ w (matches-word (size Members) 2 (d .0) m (omega arith) s ∙ eq-eqb (memberDevice m .0) (d .0) z)) e)
         (λ x e. refl) h;
+    sessions = λ m s w h. session-kept (wipe (addressed (d .0))) _ m tt
+        (λ x e. apart (sessionDevice m .0) (d .0) x
+        (λ z. never _ w (addressed-word (size Sessions) (d .0) m (omega arith) s ∙ eq-eqb (sessionDevice m .0) (d .0) z)) e) h;
   }
 
-pub hosted-release : (L : Lent) (d : DeviceAddress) → Sane L → Hosted L (releasing d) (entries (releases d)) (release L d .outcome)
-unfolding settled release
+pub hosted-release : (L : Lent) (d : DeviceAddress) → Sane L → Hosted L (releasing (tables L) d) (entries (releases d)) (release L d .outcome)
+unfolding settled release releasing
 hosted-release L d S =
-    hosted-ask Unsound refl (λ s. hosted-ask NotAdmitted refl (λ a. let l = admitted-small L d S a in granting (ok-release L d l) (told-release L d l)))
+    hosted-ask Unsound refl (λ s. hosted-ask NotAdmitted refl (λ a.
+    let l = admitted-small L d S a in
+    granting (ok-closing (tables L) (ok-taking L d l)) (told-closing (tables L) (told-taking L d l))))
 
 -- Neither has a count or a length
 

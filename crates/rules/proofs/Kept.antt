@@ -1,15 +1,15 @@
 -- Soundness (document 01, Tables) and "every element of a table is an octet" are kept by every change that is in order.
 use Rattle.words.specs.Basics.{_≡_, refl, ap, _∙_, Bool, true, false, cond, not, List, ℕ, _%_, eqb, length, eqb-true}
-use Rattle.rules.specs.Types.{DeviceAddress, GroupAddress, Kind, Devices, Binds, Groups, Members}
+use Rattle.rules.specs.Types.{DeviceAddress, GroupAddress, Kind, Devices, Binds, Groups, Members, Sessions}
 use Rattle.rules.specs.Lists.{any, all, _&_}
 use Rattle.rules.specs.Octets.{octetString}
 use Rattle.rules.specs.Tables.{Rec, records, used, addressed, Change, none, wipe, change}
 use Rattle.rules.specs.Layout.{size, most, key, bindSource, bindSourceUnit, bindFrom, fromAnyDevice, fromAnyUnit}
 use Rattle.rules.specs.Layout.{toGroup, boundGroup, boundDevice, bindUnit, bindTo}
-use Rattle.rules.specs.Layout.{memberGroup, memberDevice, memberUnit}
+use Rattle.rules.specs.Layout.{memberGroup, memberDevice, memberUnit, sessionDevice}
 use Rattle.rules.specs.Frame.{Lent, lentOf, tables, Effect, nothing, changed}
 use Rattle.rules.specs.Exists.{admitted, hasUnit, unitExists, deviceExists, groupExists}
-use Rattle.rules.specs.Sound.{wholeRecords, sourceFits, destinationFits, bindFits, memberFits, fits, distinct, soundTable, sound}
+use Rattle.rules.specs.Sound.{wholeRecords, sourceFits, destinationFits, bindFits, memberFits, sessionFits, fits, distinct, soundTable, sound}
 use Rattle.rules.proofs.Lists.{split, join}
 use Rattle.rules.proofs.Frames.{shapes, every-at, every-of, lent-changed}
 use Rattle.rules.proofs.Words.{shaped}
@@ -46,11 +46,12 @@ Keeps k L x =
     (r : Rec) → shaped (size k) r ≡ true → spares (x k) r ≡ true → fits k (tables L Devices) (tables L Groups) r ≡ true
     → fits k (change (x Devices) (tables L Devices)) (change (x Groups) (tables L Groups)) r ≡ true
 
--- .. of every table, and besides of the two whose records name others
+-- .. of every table, and besides of the three whose records name others
 pub record Ok (L : Lent) (x : Effect) : Type 0 where
   pub order : (k : Kind) → InOrder k L (x k)
   pub binds : Keeps Binds L x
   pub members : Keeps Members L x
+  pub sessions : Keeps Sessions L x
 
 pub order-none : (k : Kind) (L : Lent) → InOrder k L none
 unfolding Storable New
@@ -87,6 +88,7 @@ module _ (L : Lent) (x : Effect) (o : Ok L x) (S : Sane L) where
   keeps Binds = o .binds
   keeps Groups = λ r s w h. h
   keeps Members = o .members
+  keeps Sessions = o .sessions
 
   all-shaped : (k : Kind) → all (shaped (size k)) (tables L k) ≡ true
   all-shaped k = shaped-records (size k) (lentOf k L) (S .octets k)
@@ -182,6 +184,11 @@ module _ (cd cg : Change) (ds gs : List Rec) (fd : Storable cd ds) (fg : Storabl
       let a = split h in
       join (group-kept cg gs (memberGroup m) fg grp a.0) (unit-kept cd ds (memberDevice m) (memberUnit m) fd dev a.1)
 
+pub session-kept : (c : Change) (ds : List Rec) (r : Rec) → Storable c ds → ((x : Rec) → addressed (sessionDevice r .0) x ≡ true → spares c x ≡ true)
+    → sessionFits ds r ≡ true → sessionFits (change c ds) r ≡ true
+unfolding sessionFits
+session-kept c ds r f s h = device-kept c ds (sessionDevice r) f s h
+
 pub ok-nothing : (L : Lent) → Ok L nothing
 unfolding nothing spares change
-ok-nothing L = record { order = λ k. order-none k L; binds = λ r s w h. h; members = λ r s w h. h }
+ok-nothing L = record { order = λ k. order-none k L; binds = λ r s w h. h; members = λ r s w h. h; sessions = λ r s w h. h }

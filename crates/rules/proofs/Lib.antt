@@ -14,13 +14,17 @@ pub mod Standing
 pub mod Stored
 pub mod Granted
 pub mod Hosted
+pub mod Shuts
 pub mod Carried
 pub mod Ways
 pub mod Steps
 pub mod Run
+pub mod Closed
 pub mod Links
 pub mod Counts
+pub mod Entries
 pub mod Condition3
+pub mod Sheet
 pub mod Seen
 pub mod Stands
 pub mod RoundTrip
@@ -37,6 +41,8 @@ pub mod RowsOfCommands
 pub mod RowsOfCalls
 pub mod RowsOfUnits
 pub mod RowsOfScenes
+pub mod RowsOfSessions
+pub mod RowsOfEntries
 pub mod Rows
 pub mod Worked
 pub mod NotVacuous

@@ -86,6 +86,16 @@ module _ {A : Type 0} where
   all-weaken p q w [] h = refl
   all-weaken p q w (x ∷ l) h = let e = and-parts (p x) (all p l) h in rw (w x e.0) (all-weaken p q w l e.1)
 
+  pub any-weaken : (p q : A → Bool) → ((x : A) → p x ≡ true → q x ≡ true) → (l : List A) → any p l ≡ true → any q l ≡ true
+  unfolding any
+  any-weaken p q w [] h = h
+  any-weaken p q w (x ∷ l) h = step (p x) (q x) (w x) h (any-weaken p q w l)
+    where
+      step : (a b : Bool) → (a ≡ true → b ≡ true) → (a || any p l) ≡ true → (any p l ≡ true → any q l ≡ true) → (b || any q l) ≡ true
+      step a true w h ih = refl
+      step true false w h ih = absurd (false≢true (w refl))
+      step false false w h ih = ih h
+
   -- two tests that agree on every element count alike
   pub count-same : (p q : A → Bool) → ((x : A) → p x ≡ q x) → (l : List A) → count p l ≡ count q l
   unfolding count
@@ -178,6 +188,18 @@ module _ {A : Type 0} where
   unfolding all
   all-replicate p zero a h = refl
   all-replicate p (suc n) a h = rw h (all-replicate p n a h)
+
+  -- every element is kept by a test that all pass, and two tests that agree keep the same
+
+  pub keep-all : (l : List A) → keep (λ x. true) l ≡ l
+  unfolding keep
+  keep-all [] = refl
+  keep-all (x ∷ l) = ap (λ k. x ∷ k) (keep-all l)
+
+  pub keep-alike : (s p q : A → Bool) → ((x : A) → s x ≡ true → p x ≡ q x) → (l : List A) → all s l ≡ true → keep p l ≡ keep q l
+  unfolding keep all
+  keep-alike s p q e [] h = refl
+  keep-alike s p q e (x ∷ l) h = let a = and-parts (s x) (all s l) h in rw (e x a.0, keep-alike s p q e l a.1)
 
   -- those that pass are as many as are kept, and no more than there are
   pub length-kept : (p : A → Bool) (l : List A) → length (keep p l) ≡ count p l

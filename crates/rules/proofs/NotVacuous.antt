@@ -1,8 +1,8 @@
 -- Condition 3 speaks of something: the run of docs/HISTORY.md, with both binds and both members in it, meets all that it asks, and this is what it then
--- says of that run. A condition that no run could meet, or a request that nobody could send, would have no proof here.
-use Rattle.words.specs.Basics.{_≡_, refl, sym, Bool, true, false, not, _&&_, _||_, List, [], _∷_, flatMap, ℕ, eqb, ne-eqb, eqb-true, eqb-false}
+-- says of that run; and so of what is read back. A condition that no run could meet, or a request that nobody could send, would have no proof here.
+use Rattle.words.specs.Basics.{_≡_, refl, sym, Bool, true, false, not, _&&_, _||_, List, [], _∷_, _++_, flatMap, ℕ, arith, eqb, ne-eqb, eqb-true, eqb-false}
 use Rattle.words.specs.Names.{device}
-use Rattle.rules.specs.Types.{Is, GetGroupInfo, Forwarded}
+use Rattle.rules.specs.Types.{StartSession, GetEntries, Filter, Index, Part, Source, Is, GetGroupInfo, Forwarded}
 use Rattle.rules.specs.Lists.{all}
 use Rattle.rules.specs.Message.{fields}
 use Rattle.rules.specs.Payloads.{command}
@@ -10,12 +10,14 @@ use Rattle.rules.specs.Octets.{octetString, over}
 use Rattle.rules.specs.Units.{threeOctets, unitOctets}
 use Rattle.rules.specs.Calls.{roomy, message, answer, forwarded}
 use Rattle.rules.specs.History.{Call, sends, admits, said, after, Event, history, octetsOnly, granted, freeTables, Request, Exactly, memberCount}
+use Rattle.rules.specs.Tables.{Rec}
+use Rattle.rules.specs.Sheet.{bindCount, entriesRead, NoStart}
 use Rattle.rules.proofs.Lists.{and-false}
 use Rattle.rules.proofs.Whole.{whole}
 use Rattle.rules.proofs.Condition3.{condition3}
 use Rattle.rules.proofs.Samples.{run, lending, zero-to-two, valance, three-one, four-one, concentrator, curtains, bindManagement, groupManagement}
 use Rattle.rules.proofs.Samples.{letter, request, reply}
-use Rattle.rules.proofs.Worked.{Line, list, asked, start, linking}
+use Rattle.rules.proofs.Worked.{Line, list, asked, A, B, start, linking}
 
 -- the calls to the place where both binds and both members stand, the latest first, and their history
 
@@ -164,3 +166,50 @@ pub delivers-with-any : message (after start with-scene) elsewhere reply list
     ≡ answer (Forwarded 1) (after start with-scene) reply (lending 12 (run 3 0x00_03_01))
 unfolding over threeOctets
 delivers-with-any = delivers-one with-scene elsewhere 0x00_03_01 meets-with-any
+
+-- Reading back: at the place where both binds stand, 3:01 starts a session, its request is handed on, and 3:01 reads
+
+abbrev start-session : List ℕ
+start-session = letter three-one concentrator 0x01 bindManagement 0x07 []
+
+abbrev in-session : List Call
+in-session = sends start-session reply list ∷ calls
+
+abbrev meanwhile : List Call
+meanwhile = sends asked reply list ∷ []
+
+-- a read by index from 0 on, of up to 255; one by source
+abbrev page : List ℕ
+page = letter three-one concentrator 0x01 bindManagement 0x09 (run 3 0x00_00_FF)
+
+abbrev by-source : List ℕ
+by-source = letter three-one concentrator 0x01 bindManagement 0x0A (run 2 0x00_03)
+
+-- what `is-the-sheet` asks of a read m by the filter f, and what its reply then says
+pub record MeetsRead (f : Filter) (m : List ℕ) (es : List Rec) : Type 0 where
+  pub octets : all octetsOnly in-session ≡ true
+  pub later : all octetsOnly meanwhile ≡ true
+  pub no-start : NoStart (fields m .source) meanwhile
+  pub message : octetString m ≡ true
+  pub asks : command (fields m) ≡ Is (GetEntries f)
+  pub granted : granted (sends m reply list) (said (after start (meanwhile ++ in-session)) (sends m reply list)) ≡ true
+  pub says : entriesRead (said (after start (meanwhile ++ in-session)) (sends m reply list)) ≡ es
+
+-- a request to the bind address is no Start
+not-start : command (fields asked) ≡ Is StartSession → ⊥
+unfolding whole
+not-start e = let z : _≡_ {A = ℕ} 0 1 = cc in absurd (omega arith)
+
+pub reads-page : MeetsRead Index page (A ∷ B ∷ [])
+unfolding whole calls
+reads-page = record { octets = refl; later = refl; no-start = (λ e. not-start (e .0), tt); message = refl; asks = refl; granted = refl; says = refl }
+
+pub reads-by-source : MeetsRead (Part Source) by-source (A ∷ B ∷ [])
+unfolding whole calls
+reads-by-source = record { octets = refl; later = refl; no-start = (λ e. not-start (e .0), tt); message = refl; asks = refl; granted = refl; says = refl }
+
+-- .. and Start counts two
+pub starts-two : (granted (sends start-session reply list) (said (after start calls) (sends start-session reply list)) ≡ true)
+    × (bindCount (said (after start calls) (sends start-session reply list)) ≡ 2)
+unfolding whole calls
+starts-two = (refl, refl)

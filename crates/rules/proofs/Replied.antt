@@ -5,13 +5,13 @@ use Rattle.words.specs.Basics.{_≡_, refl, sym, ap, _∙_, Bool, true, false, 
 use Rattle.words.specs.Basics.{drop, length-append, length-take, eqb-true, leb-true}
 use Rattle.words.specs.Names.{code, ok, headerLength, longest}
 use Rattle.words.specs.Outcomes.{numberOf, valueOf}
-use Rattle.rules.specs.Types.{DeviceAddress, GroupAddress, Fields, Command, AddBind, RemoveBinds, CreateGroup, DeleteGroup, AddToGroup}
-use Rattle.rules.specs.Types.{RemoveFromGroup, GetGroupInfo, Is, Binds, Groups, Members, Outcome, Done, Way}
+use Rattle.rules.specs.Types.{DeviceAddress, GroupAddress, Fields, Command, AddBind, RemoveBinds, StartSession, EndSession, GetEntries, CreateGroup}
+use Rattle.rules.specs.Types.{DeleteGroup, AddToGroup, RemoveFromGroup, GetGroupInfo, Is, Binds, Groups, Members, Outcome, Done, Way}
 use Rattle.rules.specs.Lists.{firstOf}
 use Rattle.rules.specs.Octets.{octets, over}
 use Rattle.rules.specs.Units.{unitOctets, ordered}
 use Rattle.rules.specs.Tables.{Rec, used, addressed}
-use Rattle.rules.specs.Layout.{full, nameLength, groupName}
+use Rattle.rules.specs.Layout.{size, full, nameLength, groupName}
 use Rattle.rules.specs.Frame.{Lent, tables}
 use Rattle.rules.specs.Message.{fields, payload, readingOf, reading, answering, reply}
 use Rattle.rules.specs.Exists.{groupExists}
@@ -21,11 +21,13 @@ use Rattle.rules.specs.Payloads.{command, groupNamed}
 use Rattle.rules.specs.Commands.{row, infoHead, info, groupInfo, judge, onOk, replyPayload}
 use Rattle.rules.specs.Calls.{answered, handled, forwarded, follow, message}
 use Rattle.rules.proofs.Lists.{split, first-passes}
+use Rattle.rules.proofs.Records.{each-records}
 use Rattle.rules.proofs.Order.{length-unitOctets}
 use Rattle.rules.proofs.Kept.{sound-at, whole-at}
 use Rattle.rules.proofs.Granted.{info-granted}
 use Rattle.rules.proofs.Ways.{Acting, Ways, refuses, serves, forwards, ways}
 use Rattle.rules.proofs.Counts.{few-members, name-fits}
+use Rattle.rules.proofs.Entries.{entries-by}
 use Rattle.rules.proofs.RoundTrip.{reply-read, reply-length, reply-payload}
 
 -- How long it is
@@ -59,9 +61,12 @@ module _ (L : Lent) (h : sound L ≡ true) where
 
   short-granted : (s : DeviceAddress) (k : Command) (p : List ℕ) → judge (tables L) s k p ≡ ok
       → headerLength + length (ok .0 ∷ row k .behind (tables L) p) ≤ longest
-  unfolding octets
+  unfolding octets soundTable
   short-granted s AddBind p j = omega arith
   short-granted s (RemoveBinds q) p j = omega arith
+  short-granted s StartSession p j = omega arith
+  short-granted s EndSession p j = omega arith
+  short-granted s (GetEntries f) p j = entries-by f p (tables L Binds) (each-records (size Binds) (L .binds)) (split (sound-at L h Binds) .1) .short
   short-granted s CreateGroup p j = omega arith
   short-granted s DeleteGroup p j = omega arith
   short-granted s AddToGroup p j = omega arith

@@ -20,6 +20,8 @@ use Rattle.rules.proofs.RowsOfCommands as commands
 use Rattle.rules.proofs.RowsOfCalls as calls
 use Rattle.rules.proofs.RowsOfUnits as units
 use Rattle.rules.proofs.RowsOfScenes as scenes
+use Rattle.rules.proofs.RowsOfSessions as sessions
+use Rattle.rules.proofs.RowsOfEntries as entries
 use Rattle.rules.proofs.Samples.{Row, row, AsTold, run, lending, filled, device-table, D3, D4, D5, named, threeMembers, holding, three-one, four-one}
 use Rattle.rules.proofs.Samples.{to-group-one, curtains, bindManagement, letter, request, Sent, told, answerTo, reply}
 
@@ -155,6 +157,20 @@ pub record AllRows : Type 0 where
   pub release-any : AsTold calls.releaseOf scenes.release-any
   pub unsound-any : AsTold answerTo scenes.unsound-any
   pub linked-by-history : AsTold scenes.linkedAfter scenes.linked-by-history
+  pub start-session : AsTold answerTo sessions.start-session
+  pub end-session : AsTold answerTo sessions.end-session
+  pub closings : AsTold answerTo sessions.closings
+  pub released-sessions : AsTold calls.releaseOf sessions.released-sessions
+  pub unsound-sessions : AsTold answerTo sessions.unsound-sessions
+  pub not-admitted-unsound : AsTold calls.admitOf sessions.not-admitted-unsound
+  pub not-released-unsound : AsTold calls.releaseOf sessions.not-released-unsound
+  pub sound-sessions : AsTold answerTo sessions.sound-sessions
+  pub admitted-sessions : AsTold calls.admitOf sessions.admitted-sessions
+  pub by-index : AsTold answerTo entries.by-index
+  pub by-address : AsTold answerTo entries.by-address
+  pub without-session : AsTold answerTo entries.without-session
+  pub in-session : AsTold answerTo entries.in-session
+  pub no-more-than-fit : AsTold answerTo entries.no-more-than-fit
 
 pub as-told : AllRows
 unfolding whole readBack
@@ -206,4 +222,18 @@ as-told = record {
   release-any = refl;
   unsound-any = refl;
   linked-by-history = refl;
+  start-session = refl;
+  end-session = refl;
+  closings = refl;
+  released-sessions = refl;
+  unsound-sessions = refl;
+  not-admitted-unsound = refl;
+  not-released-unsound = refl;
+  sound-sessions = refl;
+  admitted-sessions = refl;
+  by-index = refl;
+  by-address = refl;
+  without-session = refl;
+  in-session = refl;
+  no-more-than-fit = refl;
 }

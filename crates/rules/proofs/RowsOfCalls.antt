@@ -104,7 +104,7 @@ pub record Admitting : Type 0 where
   pub rights : ℕ
   pub units : List ℕ
 
-abbrev admitting : Lent → ℕ → ℕ → List ℕ → Admitting
+abbrev pub admitting : Lent → ℕ → ℕ → List ℕ → Admitting
 admitting L d r us = record { tables = L; address = d; rights = r; units = us }
 
 abbrev pub admitOf : Admitting → HostAnswer
@@ -118,7 +118,7 @@ four-devices = D1 ++ D3 ++ D4 ++ D5
 abbrev admits : ℕ → ℕ → List ℕ → Row Admitting HostAnswer
 admits d r us = row (admitting plain d r us) (hosted 0 (holding (four-devices ++ known d r us) (filled 48 []) groups members))
 
-abbrev not-admitted : Lent → ℕ → ℕ → List ℕ → ℕ → Row Admitting HostAnswer
+abbrev pub not-admitted : Lent → ℕ → ℕ → List ℕ → ℕ → Row Admitting HostAnswer
 not-admitted L d r us o = row (admitting L d r us) (hosted o L)
 
 -- no free record; one that is cut off behind it, so that the tables are not sound

@@ -73,7 +73,7 @@ not-served =
     map (λ t. asks t bindManagement 0x01 bind) others
     ++ map (λ t. asks t groupManagement 0x05 (run 2 0x00_01)) others
     -- members that are no command
-    ++ map (λ n. asks 0x01 bindManagement n bind) (0x00 ∷ 0x07 ∷ 0x08 ∷ 0x81 ∷ 0xFF ∷ [])
+    ++ map (λ n. asks 0x01 bindManagement n bind) (0x00 ∷ 0x0E ∷ 0x0F ∷ 0x81 ∷ 0x87 ∷ 0xFF ∷ [])
     ++ map (λ n. asks 0x01 groupManagement n (run 2 0x00_01)) (0x00 ∷ 0x06 ∷ 0x08 ∷ 0x85 ∷ 0xFF ∷ [])
     -- another interface, also one whose second octet is the same
     ++ map (λ i. asks 0x01 i 0x01 bind) (run 2 0x80_01 ∷ run 2 0x80_04 ∷ run 2 0x81_02 ∷ run 2 0x81_03 ∷ [])

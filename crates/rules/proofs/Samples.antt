@@ -102,9 +102,21 @@ threeMembers = run 5 0x00_01_00_05_01 ++ run 5 0x00_01_00_04_02 ++ run 5 0x00_01
 abbrev pub members : List ℕ
 members = filled 20 threeMembers
 
--- tables that hold these octets
+-- a session table of three: these records, the others free
+abbrev pub session-table : List ℕ → List ℕ
+session-table ss = filled 6 ss
+
+-- tables with other octets for sessions
+abbrev pub with-sessions : List ℕ → Lent → Lent
+with-sessions ss L = beside L (L .devices) (L .binds) (L .groups) (L .members) ss
+
+-- tables in which these devices, two octets each, have a session
+abbrev pub reading : List ℕ → Lent → Lent
+reading ss L = with-sessions (session-table ss) L
+
+-- tables that hold these octets, and no session
 abbrev pub holding : List ℕ → List ℕ → List ℕ → List ℕ → Lent
-holding ds bs gs ms = beside nothingLent ds bs gs ms
+holding ds bs gs ms = beside nothingLent ds bs gs ms (session-table [])
 
 -- the house with these binds in a table of six
 abbrev pub house : List ℕ → Lent

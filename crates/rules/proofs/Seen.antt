@@ -1,16 +1,19 @@
 -- From contracts to runs: where a contract says what the rules say, what callers see of calls that meet it is the history of a run, and the tables that
 -- they then hold are those after it. So condition 3, which is proved of runs, holds of what was seen.
 use mathlib.Core.Path.{subst₂}
-use Rattle.words.specs.Basics.{_≡_, refl, sym, ap, _∙_, true, List, [], _∷_, ℕ}
-use Rattle.rules.specs.Types.{DeviceAddress}
+use mathlib.Core.List.{map-append}
+use Rattle.words.specs.Basics.{_≡_, refl, sym, ap, _∙_, true, List, [], _∷_, _++_, ℕ, length}
+use Rattle.rules.specs.Types.{DeviceAddress, Binds}
 use Rattle.rules.specs.Lists.{all}
 use Rattle.rules.specs.Frame.{Lent}
 use Rattle.rules.specs.Host.{HostAnswer, admit, release}
 use Rattle.rules.specs.Calls.{Answer, answer, message}
-use Rattle.rules.specs.History.{Call, sends, admits, releases, Said, said, left, after, Event, history, octetsOnly, granted, memberCount, freeTables}
-use Rattle.rules.specs.Seen.{Contract, saidBy, saidByHost, Seen, begins, goes-on, calls, SeenHolds}
+use Rattle.rules.specs.History.{Call, sends, admits, releases, Said, said, left, after, Event, history, octetsOnly, granted, standing, memberCount, freeTables}
+use Rattle.rules.specs.Sheet.{bindCount, entriesRead}
+use Rattle.rules.specs.Seen.{Contract, saidBy, saidByHost, Seen, begins, goes-on, calls, SeenHolds, SeenReads}
 use Rattle.rules.proofs.Run.{same-room, held-run}
 use Rattle.rules.proofs.Condition3.{condition3}
+use Rattle.rules.proofs.Sheet.{is-the-sheet}
 
 -- A call that was told what the rules say, and left what they say
 
@@ -56,6 +59,10 @@ module _ {Meets : Contract} (right : (L : Lent) (c : Call) (a : Said) (M : Lent)
       let w = right _ _ _ _ m in
       (ap (λ (X : Lent). left X c) (k .0) ∙ sym (w .leaves), rw (k .0, k .1, w .told))
 
+  -- what one more call was told is what the rules say after the run
+  told-in-run : {L₀ L M : Lent} {h : List Event} {c : Call} {a : Said} → Seen Meets L₀ h L → Meets L c a M → a ≡ said (after L₀ (calls h)) c
+  told-in-run {c = c} s m = right _ _ _ _ m .told ∙ ap (λ (X : Lent). said X c) (sym (as-run s .0))
+
   -- the same of a run
   run-holds : (L₀ : Lent) → freeTables L₀ ≡ true → (cs : List Call) → all octetsOnly cs ≡ true → SeenHolds Meets (history L₀ cs) (after L₀ cs)
   run-holds L₀ f cs o =
@@ -73,6 +80,24 @@ module _ {Meets : Contract} (right : (L : Lent) (c : Call) (a : Said) (M : Lent)
   -- condition 3 of what was seen
   pub seen-holds : {L₀ L : Lent} {h : List Event} → freeTables L₀ ≡ true → Seen Meets L₀ h L → all octetsOnly (calls h) ≡ true → SeenHolds Meets h L
   seen-holds {L₀} {L} {h} f s o = let k = as-run s in subst₂ (λ (h : List Event) (L : Lent). SeenHolds Meets h L) (k .1) (k .0) (run-holds L₀ f (calls h) o)
+
+  -- what is read back, of what was seen
+  pub seen-reads : {L₀ L : Lent} {h : List Event} → freeTables L₀ ≡ true → Seen Meets L₀ h L → all octetsOnly (calls h) ≡ true → SeenReads Meets L₀ h
+  seen-reads {L₀} {L} {h} f s o =
+      let B = is-the-sheet L₀ f (calls h) o in
+      let k = as-run s in
+      record {
+        sheet = B .sheet;
+        stands = rw (k .1) at (B .stands);
+        once = B .once;
+        counts = λ {L} {M} {m} {r} {l} z x om c g.
+            let w = told-in-run z x in
+            ap bindCount w ∙ B .counts m r l om c (ap (granted (sends m r l)) (sym w) ∙ g) ∙ ap (λ (i : List Event). length (standing Binds i)) (k .1);
+        reads = λ later i {L} {M} {m} {r} {l} z x ol n om c g.
+            let e : calls (later ++ h) ≡ calls later ++ calls h = map-append _ later h in
+            let w = rw e at (told-in-run z x) in
+            ap entriesRead w ∙ B .reads (calls later) i m r l ol n om c (ap (granted (sends m r l)) (sym w) ∙ g);
+      }
 
 -- What is seen leaves out no run: where a contract says just what the rules say, every run is seen
 pub run-seen : (L₀ : Lent) (cs : List Call) → Seen AsRules L₀ (history L₀ cs) (after L₀ cs)

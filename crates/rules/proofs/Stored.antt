@@ -1,11 +1,12 @@
 -- The records that calls store: each has its table's size, is made of octets, and is no free record.
-use Rattle.words.specs.Basics.{_≡_, refl, Bool, true, false, _&&_, List, [], _∷_, ℕ, suc, _+_, _-_, _/_, _%_, _<_, _≤_, arith, eqb, leb, length, drop}
+use Rattle.words.specs.Basics.{_≡_, refl, Bool, true, false, _&&_, List, [], _∷_, ℕ, suc, _+_, _-_, _/_, _%_, _<_, _≤_, arith, eqb, leb, length, take, drop}
 use Rattle.words.specs.Basics.{replicate, length-append, length-replicate, drop-at, eq-eqb, ne-eqb, leb-true, le-leb}
-use Rattle.rules.specs.Types.{DeviceAddress, GroupAddress, Devices, Binds, Groups, Members}
+use Rattle.rules.specs.Types.{DeviceAddress, GroupAddress, Devices, Binds, Groups, Members, Sessions}
 use Rattle.rules.specs.Lists.{all}
 use Rattle.rules.specs.Octets.{octet, word, octets, ignoreTop, octetString}
 use Rattle.rules.specs.Tables.{Rec, free?}
-use Rattle.rules.specs.Layout.{size, unitsLength, longestName, deviceAddress, deviceRights, deviceUnits, deviceRecord, groupRecord}
+use Rattle.rules.specs.Layout.{size, key, unitsLength, longestName, deviceAddress, deviceRights, deviceUnits, deviceRecord, groupRecord}
+use Rattle.rules.specs.Layout.{sessionRecord}
 use Rattle.rules.specs.Sound.{addressFits, deviceInRange, deviceFits, groupFits}
 use Rattle.rules.specs.Payloads.{bindOf, memberOf, groupNamed}
 use Rattle.rules.proofs.Lists.{and-parts, split, join, all-append, all-replicate}
@@ -127,3 +128,17 @@ module _ (d : DeviceAddress) (a : ℕ) (us : List ℕ) where
 pub device-high : (r : Rec) → deviceFits r ≡ true → word 0 r ≤ 32766
 unfolding deviceFits
 device-high r h = device-fields (deviceAddress r) (deviceRights r) (deviceUnits r) (split h .0) .0
+
+-- the record of a session
+module _ (d : DeviceAddress) where
+  pub session-stored : d .0 < 32768 → Stored (size Sessions) (sessionRecord d)
+  unfolding sessionRecord octets octetString all
+  session-stored h = stored (size Sessions) (d .0 / 256) (d .0 % 256 ∷ []) refl (omega arith) (octets-before (d .0 % 256) [] (omega arith) refl)
+
+  pub session-key : take (key Sessions) (sessionRecord d) ≡ octets (d .0)
+  unfolding sessionRecord octets
+  session-key = refl
+
+  pub session-device : word 0 (sessionRecord d) ≡ d .0
+  unfolding word sessionRecord octets
+  session-device = omega arith

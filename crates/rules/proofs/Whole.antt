@@ -12,12 +12,14 @@ use Rattle.rules.specs.Exists as exists
 use Rattle.rules.specs.Sound as sound
 use Rattle.rules.specs.Recipients as recipients
 use Rattle.rules.specs.Payloads as payloads
+use Rattle.rules.specs.Sessions as sessions
 use Rattle.rules.specs.Commands as commands
 use Rattle.rules.specs.Copy as copy
 use Rattle.rules.specs.Host as host
 use Rattle.rules.specs.Carry as carry
 use Rattle.rules.specs.Calls as calls
 use Rattle.rules.specs.History as history
+use Rattle.rules.specs.Sheet as sheet
 
 unfoldable of-lists : ℕ
 unfolding lists._&_ lists.ask lists.count lists.any lists.all lists.keep lists.firstOf lists.has
@@ -44,7 +46,7 @@ unfolding layout.inSet layout.among layout.lowBits layout.upTo layout.deviceReco
 of-layout = 0
 
 unfoldable of-layout-2 : ℕ
-unfolding layout.fromAnyDevice layout.fromAnyUnit layout.atAnyInterface
+unfolding layout.fromAnyDevice layout.fromAnyUnit layout.atAnyInterface layout.sessionRecord
 of-layout-2 = 0
 
 unfoldable of-frame : ℕ
@@ -68,7 +70,7 @@ unfolding sound.wholeRecords sound.addressFits sound.deviceInRange sound.deviceF
 of-sound = 0
 
 unfoldable of-sound-2 : ℕ
-unfolding sound.sourceFits sound.memberFits sound.fits sound.distinct sound.soundTable sound.sound
+unfolding sound.sourceFits sound.memberFits sound.sessionFits sound.fits sound.distinct sound.soundTable sound.sound
 of-sound-2 = 0
 
 unfoldable of-recipients : ℕ
@@ -76,8 +78,16 @@ unfolding recipients.membersOf recipients.bindMatches recipients.reached recipie
 of-recipients = 0
 
 unfoldable of-payloads : ℕ
-unfolding payloads.bindCommand payloads.groupCommand payloads.command payloads.bindOf payloads.wanted payloads.memberOf payloads.groupNamed
+unfolding payloads.readCommand payloads.bindCommand payloads.groupCommand payloads.command payloads.bindOf payloads.wanted payloads.memberOf
 of-payloads = 0
+
+unfoldable of-payloads-2 : ℕ
+unfolding payloads.groupNamed
+of-payloads-2 = 0
+
+unfoldable of-sessions : ℕ
+unfolding sessions.inSession sessions.alters sessions.closing sessions.chosen sessions.entriesBy sessions.listing
+of-sessions = 0
 
 unfoldable of-commands : ℕ
 unfolding commands.addition commands.removal commands.naming commands.creation commands.smallest commands.newGroup commands.infoHead commands.info
@@ -87,12 +97,16 @@ unfoldable of-commands-2 : ℕ
 unfolding commands.groupInfo commands.rightsFit commands.payloadFits commands.judge commands.onOk commands.done commands.replyPayload
 of-commands-2 = 0
 
+unfoldable of-commands-3 : ℕ
+unfolding commands.opening commands.sessionOr
+of-commands-3 = 0
+
 unfoldable of-copy : ℕ
 unfolding copy.copied copy.copyFits copy.copy
 of-copy = 0
 
 unfoldable of-host : ℕ
-unfolding host.settled host.admitting host.admission host.admit host.namesDevice host.releasing host.release
+unfolding host.settled host.admitting host.admission host.admit host.namesDevice host.taking host.releasing host.release
 of-host = 0
 
 unfoldable of-carry : ℕ
@@ -127,14 +141,18 @@ unfoldable of-history-4 : ℕ
 unfolding history.memberSaid history.memberNamed history.filledIn history.sourceSaid history.interfaceSaid history.madeFor
 of-history-4 = 0
 
+unfoldable of-sheet : ℕ
+unfolding sheet.bindCount sheet.entriesRead sheet.readOf
+of-sheet = 0
+
 unfoldable tables-and-messages : ℕ
 unfolding of-lists of-octets of-units of-tables of-tables-2 of-layout of-layout-2 of-frame of-message of-message-2 of-exists of-sound
 tables-and-messages = 0
 
 unfoldable commands-and-calls : ℕ
-unfolding of-sound-2 of-recipients of-payloads of-commands of-commands-2 of-copy of-carry of-carry-2
+unfolding of-sound-2 of-recipients of-payloads of-payloads-2 of-sessions of-commands of-commands-2 of-commands-3 of-copy of-carry of-carry-2
 commands-and-calls = 0
 
 unfoldable pub whole : ℕ
-unfolding list.flatMap tables-and-messages commands-and-calls of-host of-calls of-calls-2 of-history of-history-2 of-history-3 of-history-4
+unfolding list.flatMap tables-and-messages commands-and-calls of-host of-calls of-calls-2 of-history of-history-2 of-history-3 of-history-4 of-sheet
 whole = 0

@@ -108,10 +108,10 @@ module _ (L : Lent) where
 abbrev S : Rec
 S = named 1 (0x53 ∷ [])
 
-abbrev A : Rec
+abbrev pub A : Rec
 A = run 8 0x00_03_01_82_00_00_04_02
 
-abbrev B : Rec
+abbrev pub B : Rec
 B = run 8 0x00_03_01_82_00_80_01_00
 
 abbrev four : Rec

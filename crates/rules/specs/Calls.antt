@@ -73,7 +73,7 @@ answer o L r l = record { outcome = o; tables = L; reply = r; list = l }
 unfoldable pub answered : Lent → Command → Fields → List ℕ → Code → List ℕ → List ℕ → Answer
 answered L k f p c r l =
     let q : List ℕ = replyPayload (tables L) k p c in
-    answer (Done (headerLength + length q)) (changed (done (tables L) k p c) L) (over (reply f q) r) l
+    answer (Done (headerLength + length q)) (changed (done (tables L) (f .source) k p c) L) (over (reply f q) r) l
 
 -- .. the code being that of its checks
 unfoldable pub handled : Lent → Command → Fields → List ℕ → List ℕ → List ℕ → Answer

@@ -1,19 +1,20 @@
 -- The commands (document 01, Commands and codes): a row for each, with its checks and codes in the paper's order, what it changes, and what its
 -- reply has behind 0x00.
-use Rattle.words.specs.Basics.{Bool, true, false, cond, not, List, [], _∷_, _++_, ℕ, zero, suc, _+_, eqb, leb, length}
-use Rattle.words.specs.Names.{ok, notAuthorized, invalidArgument, notEnoughResources, group, lowest}
-use Rattle.rules.specs.Types.{DeviceAddress, GroupAddress, Code, Command, AddBind, RemoveBinds, CreateGroup, DeleteGroup, AddToGroup, RemoveFromGroup}
-use Rattle.rules.specs.Types.{GetGroupInfo, Devices, Binds, Groups, Members}
+use Rattle.words.specs.Basics.{Bool, true, false, cond, not, _||_, List, [], _∷_, _++_, ℕ, zero, suc, _+_, eqb, leb, length}
+use Rattle.words.specs.Names.{ok, notAuthorized, invalidArgument, noReadSession, notEnoughResources, unknownReason, group, lowest}
+use Rattle.rules.specs.Types.{DeviceAddress, GroupAddress, Code, Command, AddBind, RemoveBinds, StartSession, EndSession, GetEntries, CreateGroup}
+use Rattle.rules.specs.Types.{DeleteGroup, AddToGroup, RemoveFromGroup, GetGroupInfo, Devices, Binds, Groups, Members, Sessions}
 use Rattle.rules.specs.Lists.{any, firstOf, ask}
 use Rattle.rules.specs.Octets.{octet, octets}
 use Rattle.rules.specs.Units.{unitOctets, ordered}
 use Rattle.rules.specs.Tables.{Rec, used, someFree, matches, addressed, store, wipe}
-use Rattle.rules.specs.Layout.{size, addressLength, partIs, partLength, longestName, nameLength, groupName, groupRecord, toThisGroup, inGroup}
+use Rattle.rules.specs.Layout.{size, addressLength, partIs, partLength, longestName, nameLength, groupName, groupRecord, toThisGroup, inGroup, sessionRecord}
 use Rattle.rules.specs.Frame.{Tables, Effect, nothing, only, also}
 use Rattle.rules.specs.Exists.{hasRights, groupExists}
 use Rattle.rules.specs.Sound.{bindFits, memberFits}
 use Rattle.rules.specs.Recipients.{membersOf}
 use Rattle.rules.specs.Payloads.{bindOf, wanted, memberOf, groupNamed}
+use Rattle.rules.specs.Sessions.{inSession, closing, filterLength, entriesBy, listing}
 
 -- Checks that several commands share
 
@@ -31,6 +32,14 @@ removal q t = ask (any q (used t)) invalidArgument ok
 -- a group that is named: 0x02 where it is absent
 unfoldable pub naming : GroupAddress → List Rec → Code
 naming g gs = ask (groupExists gs g) invalidArgument ok
+
+-- a session that is opened: "0xFE at Start exactly when no session record is free and the device has none"
+unfoldable pub opening : DeviceAddress → List Rec → Code
+opening s ss = ask (inSession ss s || someFree ss) notEnoughResources ok
+
+-- a session that is used: this code where the device has none
+unfoldable pub sessionOr : Code → DeviceAddress → List Rec → Code
+sessionOr c s ss = ask (inSession ss s) c ok
 
 -- Create Group
 
@@ -64,10 +73,10 @@ pub record Row : Type 0 where
   pub rights : Bool
   -- how long should this payload be?
   pub length : List ℕ → ℕ
-  -- the code of the checks behind these two
-  pub verdict : Tables → List ℕ → Code
+  -- the code of the checks behind these two, by the tables, the sender's device and the payload
+  pub verdict : Tables → DeviceAddress → List ℕ → Code
   -- what it changes, answered 0x00
-  pub effect : Tables → List ℕ → Effect
+  pub effect : Tables → DeviceAddress → List ℕ → Effect
   -- what its reply has behind 0x00
   pub behind : Tables → List ℕ → List ℕ
 
@@ -76,33 +85,58 @@ row AddBind =
     record {
       rights = true;
       length = λ p. size Binds;
-      verdict = λ T p. ask (bindFits (T Devices) (T Groups) (bindOf p)) invalidArgument (addition (bindOf p) (T Binds));
-      effect = λ T p. only Binds (store (bindOf p));
+      verdict = λ T s p. ask (bindFits (T Devices) (T Groups) (bindOf p)) invalidArgument (addition (bindOf p) (T Binds));
+      effect = λ T s p. only Binds (store (bindOf p));
       behind = λ T p. [];
     }
 row (RemoveBinds q) =
     record {
       rights = true;
       length = λ p. partLength q;
-      verdict = λ T p. removal (partIs q (wanted q p)) (T Binds);
-      effect = λ T p. only Binds (wipe (partIs q (wanted q p)));
+      verdict = λ T s p. removal (partIs q (wanted q p)) (T Binds);
+      effect = λ T s p. only Binds (wipe (partIs q (wanted q p)));
       behind = λ T p. [];
+    }
+row StartSession =
+    record {
+      rights = true;
+      length = λ p. 0;
+      verdict = λ T s p. opening s (T Sessions);
+      -- a second Start changes nothing
+      effect = λ T s p. cond (inSession (T Sessions) s) nothing (only Sessions (store (sessionRecord s)));
+      behind = λ T p. octets (length (used (T Binds)));
+    }
+row EndSession =
+    record {
+      rights = false;
+      length = λ p. 0;
+      verdict = λ T s p. sessionOr unknownReason s (T Sessions);
+      effect = λ T s p. only Sessions (wipe (addressed (s .0)));
+      behind = λ T p. [];
+    }
+row (GetEntries f) =
+    record {
+      rights = false;
+      length = λ p. filterLength f;
+      verdict = λ T s p. sessionOr noReadSession s (T Sessions);
+      effect = λ T s p. nothing;
+      behind = λ T p. listing (entriesBy f p (T Binds));
     }
 row CreateGroup =
     record {
       rights = true;
       -- name length and name, "so an empty payload is wrong"
       length = λ p. 1 + octet 0 p;
-      verdict = λ T p. creation p (T Groups);
-      effect = λ T p. only Groups (store (groupRecord (newGroup (T Groups)) p));
+      verdict = λ T s p. creation p (T Groups);
+      effect = λ T s p. only Groups (store (groupRecord (newGroup (T Groups)) p));
       behind = λ T p. octets (newGroup (T Groups) .0);
     }
 row DeleteGroup =
     record {
       rights = true;
       length = λ p. addressLength;
-      verdict = λ T p. naming (groupNamed p) (T Groups);
-      effect = λ T p.
+      verdict = λ T s p. naming (groupNamed p) (T Groups);
+      effect = λ T s p.
           also Groups (wipe (addressed (groupNamed p .0))) (also Members (wipe (inGroup (groupNamed p))) (only Binds (wipe (toThisGroup (groupNamed p)))));
       behind = λ T p. [];
     }
@@ -110,30 +144,30 @@ row AddToGroup =
     record {
       rights = true;
       length = λ p. size Members;
-      verdict = λ T p. ask (memberFits (T Devices) (T Groups) (memberOf p)) invalidArgument (addition (memberOf p) (T Members));
-      effect = λ T p. only Members (store (memberOf p));
+      verdict = λ T s p. ask (memberFits (T Devices) (T Groups) (memberOf p)) invalidArgument (addition (memberOf p) (T Members));
+      effect = λ T s p. only Members (store (memberOf p));
       behind = λ T p. [];
     }
 row RemoveFromGroup =
     record {
       rights = true;
       length = λ p. size Members;
-      verdict = λ T p. removal (matches 0 (memberOf p)) (T Members);
-      effect = λ T p. only Members (wipe (matches 0 (memberOf p)));
+      verdict = λ T s p. removal (matches 0 (memberOf p)) (T Members);
+      effect = λ T s p. only Members (wipe (matches 0 (memberOf p)));
       behind = λ T p. [];
     }
 row GetGroupInfo =
     record {
       rights = false;
       length = λ p. addressLength;
-      verdict = λ T p. naming (groupNamed p) (T Groups);
-      effect = λ T p. nothing;
+      verdict = λ T s p. naming (groupNamed p) (T Groups);
+      effect = λ T s p. nothing;
       behind = λ T p. groupInfo (T Groups) (T Members) (groupNamed p);
     }
 
 -- A command whole
 
--- "0x01 sender's rights are 0. Not applied to Get Group Info."
+-- "0x01 sender's rights are 0. Not applied to Get Group Info." Nor to End and to reads (document 000, Tables 48 to 67)
 unfoldable pub rightsFit : List Rec → DeviceAddress → Command → Bool
 rightsFit ds s k = cond (row k .rights) (hasRights ds s) true
 
@@ -146,15 +180,15 @@ unfoldable pub judge : Tables → DeviceAddress → Command → List ℕ → Cod
 judge T s k p =
     ask (rightsFit (T Devices) s k) notAuthorized
     (ask (payloadFits k p) invalidArgument
-    (row k .verdict T p))
+    (row k .verdict T s p))
 
 -- the first where the code is 0x00, else the second
 unfoldable pub onOk : {A : Type 0} → Code → A → A → A
 onOk c a b = cond (eqb (c .0) (ok .0)) a b
 
 -- "A code other than 0x00 .., and the tables stay"
-unfoldable pub done : Tables → Command → List ℕ → Code → Effect
-done T k p c = onOk c (row k .effect T p) nothing
+unfoldable pub done : Tables → DeviceAddress → Command → List ℕ → Code → Effect
+done T s k p c = onOk c (closing T (row k .effect T s p)) nothing
 
 -- "A code other than 0x00 is a one-octet reply ..; 0x00 is one octet too unless more is named."
 unfoldable pub replyPayload : Tables → Command → List ℕ → Code → List ℕ

@@ -1,7 +1,7 @@
 -- All lent tables as one frame: one of them by its kind, and what a call does to each. What a command looks at and changes is said by kind, so that a
 -- further table changes no command.
 use Rattle.words.specs.Basics.{Bool, cond, List, [], _∷_, ℕ, eqb}
-use Rattle.rules.specs.Types.{Kind, Devices, Binds, Groups, Members}
+use Rattle.rules.specs.Types.{Kind, Devices, Binds, Groups, Members, Sessions}
 use Rattle.rules.specs.Lists.{all}
 use Rattle.rules.specs.Tables.{Rec, records, Change, none, written}
 use Rattle.rules.specs.Layout.{shape, size}
@@ -12,21 +12,22 @@ pub record Lent : Type 0 where
   pub binds : List ℕ
   pub groups : List ℕ
   pub members : List ℕ
+  pub sessions : List ℕ
 
-abbrev pub lent : List ℕ → List ℕ → List ℕ → List ℕ → Lent
-lent ds bs gs ms = record { devices = ds; binds = bs; groups = gs; members = ms }
+abbrev pub lent : List ℕ → List ℕ → List ℕ → List ℕ → List ℕ → Lent
+lent ds bs gs ms ss = record { devices = ds; binds = bs; groups = gs; members = ms; sessions = ss }
 
 -- .. by kind
 abbrev pub lentBy : (Kind → List ℕ) → Lent
-lentBy t = lent (t Devices) (t Binds) (t Groups) (t Members)
+lentBy t = lent (t Devices) (t Binds) (t Groups) (t Members) (t Sessions)
 
 -- no octet in any
 abbrev pub nothingLent : Lent
 nothingLent = lentBy (λ k. [])
 
--- the tables that commands use, beside all else that L has. These four are all that is lent so far: of L nothing is left.
-abbrev pub beside : Lent → List ℕ → List ℕ → List ℕ → List ℕ → Lent
-beside L ds bs gs ms = lent ds bs gs ms
+-- the tables that commands use, beside all else that L has. These five are all that is lent so far: of L nothing is left.
+abbrev pub beside : Lent → List ℕ → List ℕ → List ℕ → List ℕ → List ℕ → Lent
+beside L ds bs gs ms ss = lent ds bs gs ms ss
 
 -- one of them
 abbrev pub lentOf : Kind → Lent → List ℕ
@@ -34,6 +35,7 @@ lentOf Devices L = L .devices
 lentOf Binds L = L .binds
 lentOf Groups L = L .groups
 lentOf Members L = L .members
+lentOf Sessions L = L .sessions
 
 -- each of them, made anew
 abbrev pub each : (Kind → List ℕ → List ℕ) → Lent → Lent
@@ -41,7 +43,7 @@ each f L = lentBy (λ k. f k (lentOf k L))
 
 -- their order as arguments
 abbrev pub kinds : List Kind
-kinds = Devices ∷ Binds ∷ Groups ∷ Members ∷ []
+kinds = Devices ∷ Binds ∷ Groups ∷ Members ∷ Sessions ∷ []
 
 -- does it hold of every table?
 unfoldable pub everyTable : (Kind → Bool) → Bool

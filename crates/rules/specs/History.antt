@@ -6,8 +6,9 @@ use Rattle.words.specs.Names.{concentrator, anyDevice, anyUnit, anyInterface, d
 use Rattle.words.specs.declared.BindPart.the-variants.{Whole, Source, SourceUnit, Destination, DestinationUnit}
 use Rattle.words.specs.Outcomes.{numberOf}
 use Rattle.words.specs.declared.Decoded.the-variants.{Is, NotServed}
-use Rattle.rules.specs.Types.{DeviceAddress, GroupAddress, Fields, BindAddress, BindPart, Command, AddBind, RemoveBinds, CreateGroup, DeleteGroup}
-use Rattle.rules.specs.Types.{AddToGroup, RemoveFromGroup, GetGroupInfo, Decoded, Kind, Devices, Binds, Groups, Members, Outcome}
+use Rattle.rules.specs.Types.{DeviceAddress, GroupAddress, Fields, BindAddress, BindPart, Command, AddBind, RemoveBinds, StartSession, EndSession}
+use Rattle.rules.specs.Types.{GetEntries, CreateGroup, DeleteGroup, AddToGroup, RemoveFromGroup, GetGroupInfo, Decoded, Kind, Devices, Binds, Groups}
+use Rattle.rules.specs.Types.{Members, Sessions, Outcome}
 use Rattle.rules.specs.Lists.{count, any, all, keep, has, _&_}
 use Rattle.rules.specs.Octets.{octet, word, octets, number, joined, octetString}
 use Rattle.rules.specs.Units.{unitNumber, rising}
@@ -81,12 +82,13 @@ pub data Entry : Type 0 where
   adds : Rec → Entry
   withdraws : (Rec → Bool) → Entry
 
--- has the sheet a page for this table? Groups have none.
+-- has the sheet a page for this table? Groups have none, nor have sessions.
 unfoldable pub hasPage : Kind → Bool
 hasPage Devices = true
 hasPage Binds = true
 hasPage Groups = false
 hasPage Members = true
+hasPage Sessions = false
 
 -- what is written on each page
 abbrev pub Entries : Type 0
@@ -131,6 +133,9 @@ memberNamed p x =
 unfoldable pub lines : Command → List ℕ → Entries
 lines AddBind p = also Binds (adds (bindSaid p)) silence
 lines (RemoveBinds q) p = also Binds (withdraws (bindNamed q p)) silence
+lines StartSession p = silence
+lines EndSession p = silence
+lines (GetEntries f) p = silence
 lines CreateGroup p = silence
 lines DeleteGroup p =
     also Members (withdraws (λ x. eqb (memberGroup x .0) (groupSaid p .0)))

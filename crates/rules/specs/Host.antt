@@ -1,13 +1,14 @@
 -- The two host calls (document 01, Outcomes): admit a device with its rights and its set of units, and release a device.
 use Rattle.words.specs.Basics.{Bool, cond, not, _||_, List, ℕ, eqb}
 use Rattle.words.specs.Outcomes.{numberOf}
-use Rattle.rules.specs.Types.{DeviceAddress, Devices, Binds, Members, Outcome, Done, Unsound, OutOfRange, AlreadyAdmitted, NoFreeRecord, NotAdmitted}
+use Rattle.rules.specs.Types.{DeviceAddress, Devices, Binds, Members, Sessions, Outcome, Done, Unsound, OutOfRange, AlreadyAdmitted, NoFreeRecord, NotAdmitted}
 use Rattle.rules.specs.Lists.{ask}
 use Rattle.rules.specs.Tables.{Rec, someFree, addressed, store, wipe}
 use Rattle.rules.specs.Layout.{deviceRecord, fromDevice, toDevice, ofDevice}
-use Rattle.rules.specs.Frame.{Lent, tables, Effect, only, also, changed}
+use Rattle.rules.specs.Frame.{Lent, Tables, tables, Effect, only, also, changed}
 use Rattle.rules.specs.Exists.{admitted}
 use Rattle.rules.specs.Sound.{deviceInRange, sound}
+use Rattle.rules.specs.Sessions.{closing}
 
 -- what a host call answers, and what the tables then hold
 pub record HostAnswer : Type 0 where
@@ -39,10 +40,17 @@ admit L d rights us = settled (admitting d rights us) L (ask (sound L) Unsound (
 unfoldable pub namesDevice : DeviceAddress → Rec → Bool
 namesDevice d b = fromDevice d b || toDevice d b
 
--- "Release takes the device, its members and all binds that name it" (Commands and codes)
-unfoldable pub releasing : DeviceAddress → Effect
-releasing d = also Devices (wipe (addressed (d .0))) (also Members (wipe (ofDevice d)) (only Binds (wipe (namesDevice d))))
+-- "Release takes the device, its members and all binds that name it" (Commands and codes), and "closes that device's" session (document 02, request 1)
+unfoldable pub taking : DeviceAddress → Effect
+taking d =
+    also Devices (wipe (addressed (d .0)))
+    (also Members (wipe (ofDevice d))
+    (also Sessions (wipe (addressed (d .0)))
+    (only Binds (wipe (namesDevice d)))))
+
+unfoldable pub releasing : Tables → DeviceAddress → Effect
+releasing T d = closing T (taking d)
 
 -- "Release: 16, 23, else 0."
 unfoldable pub release : Lent → DeviceAddress → HostAnswer
-release L d = settled (releasing d) L (ask (sound L) Unsound (ask (admitted (tables L Devices) d) NotAdmitted (Done 0)))
+release L d = settled (releasing (tables L) d) L (ask (sound L) Unsound (ask (admitted (tables L Devices) d) NotAdmitted (Done 0)))

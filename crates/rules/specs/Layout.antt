@@ -1,9 +1,9 @@
--- The records (document 01, Tables; a device's: document 02, request 2): how many octets each has, how many there may be, where its fields stand, and how
+-- The records (document 01, Tables; a device's: document 02, request 2; a session's: request 1): how many octets each has, how many there may be, where its fields stand, and how
 -- it is built from them. No other file knows the place of a field, but for an old device's, which stand in `Carry`.
 use Rattle.words.specs.Basics.{Bool, List, [], _∷_, _++_, ℕ, zero, suc, _+_, _-_, _*_, _/_, _%_, _^_, min, eqb, length, take, drop, replicate}
 use Rattle.words.specs.Names.{device, group, flagSet, anyDevice, anyUnit, anyInterface}
 use Rattle.words.specs.declared.BindPart.the-variants.{Whole, Source, SourceUnit, Destination, DestinationUnit}
-use Rattle.rules.specs.Types.{DeviceAddress, GroupAddress, BindPart, Kind, Devices, Binds, Groups, Members}
+use Rattle.rules.specs.Types.{DeviceAddress, GroupAddress, BindPart, Kind, Devices, Binds, Groups, Members, Sessions}
 use Rattle.rules.specs.Octets.{octet, bit, word, octets, flag, number, joined}
 use Rattle.rules.specs.Units.{unitAt}
 use Rattle.rules.specs.Tables.{Rec, matches, addressed}
@@ -28,6 +28,7 @@ shape Devices = record { place = 0; size = 36; most = 64; key = addressLength }
 shape Binds = record { place = 1; size = 8; most = 64; key = 8 }
 shape Groups = record { place = 2; size = 16; most = 16; key = addressLength }
 shape Members = record { place = 3; size = 5; most = 128; key = 5 }
+shape Sessions = record { place = 4; size = addressLength; most = 8; key = addressLength }
 
 abbrev pub size : Kind → ℕ
 size k = shape k .size
@@ -219,3 +220,11 @@ inGroup g = addressed (g .0)
 
 abbrev pub ofDevice : DeviceAddress → Rec → Bool
 ofDevice d = matches 2 (octets (d .0))
+
+-- Session: device address 2 (document 02, request 1)
+
+abbrev pub sessionDevice : Rec → DeviceAddress
+sessionDevice r = device (word 0 r)
+
+unfoldable pub sessionRecord : DeviceAddress → Rec
+sessionRecord d = octets (d .0)

@@ -11,10 +11,12 @@ pub mod Exists
 pub mod Sound
 pub mod Recipients
 pub mod Payloads
+pub mod Sessions
 pub mod Commands
 pub mod Copy
 pub mod Host
 pub mod Carry
 pub mod Calls
 pub mod History
+pub mod Sheet
 pub mod Seen

@@ -1,16 +1,20 @@
--- What callers see of a chain of calls: each call met its contract, on the tables that the call before it left. And condition 3 of what they saw, in terms
--- of what was told, of the tables as they now are, and of the contract of one more call.
-use Rattle.words.specs.Basics.{_≡_, true, List, [], _∷_, map, ℕ}
+-- What callers see of a chain of calls: each call met its contract, on the tables that the call before it left. And condition 3 of what they saw, and what
+-- they read back, in terms of what was told, of the tables as they now are, and of the contract of one more call.
+use Rattle.words.specs.Basics.{_≡_, true, List, [], _∷_, _++_, map, ℕ, length}
 use Rattle.words.specs.declared.Decoded.the-variants.{Is}
-use Rattle.rules.specs.Types.{GetGroupInfo}
+use Rattle.rules.specs.Types.{StartSession, GetEntries, Filter, GetGroupInfo, Binds}
+use Rattle.rules.specs.Lists.{all}
 use Rattle.rules.specs.Octets.{octetString}
+use Rattle.rules.specs.Tables.{Rec}
+use Rattle.rules.specs.Layout.{size}
 use Rattle.rules.specs.Frame.{Lent}
 use Rattle.rules.specs.Message.{fields, payload}
-use Rattle.rules.specs.Sound.{sound}
+use Rattle.rules.specs.Sound.{distinct, sound}
 use Rattle.rules.specs.Payloads.{command}
 use Rattle.rules.specs.Host.{HostAnswer}
 use Rattle.rules.specs.Calls.{roomy, Answer, answer, forwarded}
-use Rattle.rules.specs.History.{Call, sends, Said, Event, granted, groupSaid, counted, Request, Exactly, memberCount}
+use Rattle.rules.specs.History.{Call, sends, Said, Event, octetsOnly, granted, groupSaid, standing, counted, Request, Exactly, memberCount}
+use Rattle.rules.specs.Sheet.{bindCount, entriesRead, readOf, NoStart, SameRecords}
 
 -- what it is to meet a contract: the call, made on the tables L, told its caller a, and left the tables M
 abbrev pub Contract : Type 1
@@ -45,3 +49,17 @@ pub record SeenHolds (Meets : Contract) (h : List Event) (L : Lent) : Type 0 whe
   -- one more message, Get Group Info and granted, is told the number of members by what was seen
   pub counts : {m r l : List ℕ} {a : Said} {M : Lent} → Meets L (sends m r l) a M → octetString m ≡ true → command (fields m) ≡ Is GetGroupInfo
       → granted (sends m r l) a ≡ true → memberCount a ≡ counted h (groupSaid (payload m))
+
+-- what is read back, of what was seen from the tables L₀ on
+pub record SeenReads (Meets : Contract) (L₀ : Lent) (h : List Event) : Type 0 where
+  -- the sheet: every bind that stands by what was seen, each once, in some order
+  pub sheet : List Rec
+  pub stands : SameRecords sheet (standing Binds h)
+  pub once : distinct (size Binds) sheet ≡ true
+  -- one more message, Start and granted, is told the number of binds that stand
+  pub counts : {L M : Lent} {m r l : List ℕ} {a : Said} → Seen Meets L₀ h L → Meets L (sends m r l) a M → octetString m ≡ true
+      → command (fields m) ≡ Is StartSession → granted (sends m r l) a ≡ true → bindCount a ≡ length (standing Binds h)
+  -- one more message, a read and granted, is told what it asks of the sheet, also after further calls by which its device started no session anew
+  pub reads : (later : List Event) (f : Filter) {L M : Lent} {m r l : List ℕ} {a : Said} → Seen Meets L₀ (later ++ h) L → Meets L (sends m r l) a M
+      → all octetsOnly (calls later) ≡ true → NoStart (fields m .source) (calls later) → octetString m ≡ true → command (fields m) ≡ Is (GetEntries f)
+      → granted (sends m r l) a ≡ true → entriesRead a ≡ readOf f (payload m) sheet

@@ -1,13 +1,13 @@
--- "Tables are sound if" (document 01, Tables)
+-- "Tables are sound if" (document 01, Tables; of sessions document 02, request 1)
 use Rattle.words.specs.Basics.{Bool, true, cond, not, _&&_, _||_, List, [], _∷_, ℕ, _*_, _%_, eqb, leb, length, take}
 use Rattle.words.specs.Names.{lowest, highest, noUnit}
-use Rattle.rules.specs.Types.{DeviceAddress, Kind, Devices, Binds, Groups, Members}
+use Rattle.rules.specs.Types.{DeviceAddress, Kind, Devices, Binds, Groups, Members, Sessions}
 use Rattle.rules.specs.Lists.{any, all, _&_}
 use Rattle.rules.specs.Octets.{flag}
 use Rattle.rules.specs.Tables.{Rec, records, free?, used, matches}
 use Rattle.rules.specs.Layout.{size, most, key, inSet, deviceAddress, deviceRights, deviceZero, deviceUnits}
 use Rattle.rules.specs.Layout.{bindSource, bindSourceUnit, bindFrom, fromAnyDevice, fromAnyUnit, toGroup, boundGroup, boundDevice, bindUnit, bindTo}
-use Rattle.rules.specs.Layout.{longestName, groupAddress, nameLength, namePadding, memberGroup, memberDevice, memberUnit}
+use Rattle.rules.specs.Layout.{longestName, groupAddress, nameLength, namePadding, memberGroup, memberDevice, memberUnit, sessionDevice}
 use Rattle.rules.specs.Frame.{Lent, lentOf, everyTable, tables}
 use Rattle.rules.specs.Exists.{unitExists, deviceExists, groupExists}
 
@@ -58,12 +58,17 @@ bindFits ds gs b =
 unfoldable pub memberFits : List Rec → List Rec → Rec → Bool
 memberFits ds gs m = groupExists gs (memberGroup m) & unitExists ds (memberDevice m) (memberUnit m)
 
+-- "each admitted or D'0000" (document 02, request 1)
+unfoldable pub sessionFits : List Rec → Rec → Bool
+sessionFits ds r = deviceExists ds (sessionDevice r)
+
 -- a used record of a table, by the table's rule
 unfoldable pub fits : Kind → List Rec → List Rec → Rec → Bool
 fits Devices ds gs r = deviceFits r
 fits Binds ds gs r = bindFits ds gs r
 fits Groups ds gs r = groupFits r
 fits Members ds gs r = memberFits ds gs r
+fits Sessions ds gs r = sessionFits ds r
 
 -- no used record begins with the first n octets of an earlier one
 unfoldable pub distinct : ℕ → List Rec → Bool

@@ -8,11 +8,14 @@ pub use Rattle.words.specs.declared.Destination.the-variants.{Concentrator, Bin
 pub use Rattle.words.specs.declared.BindPart.{BindPart}
 pub use Rattle.words.specs.declared.BindPart.the-variants.{Whole, Source, SourceUnit, DestinationUnit}
 pub use Rattle.words.specs.declared.Command.{Command}
-pub use Rattle.words.specs.declared.Command.the-variants.{AddBind, RemoveBinds, CreateGroup, DeleteGroup, AddToGroup, RemoveFromGroup, GetGroupInfo}
+pub use Rattle.words.specs.declared.Filter.{Filter}
+pub use Rattle.words.specs.declared.Filter.the-variants.{Index, Part}
+pub use Rattle.words.specs.declared.Command.the-variants.{AddBind, RemoveBinds, StartSession, EndSession, GetEntries, CreateGroup, DeleteGroup, AddToGroup}
+pub use Rattle.words.specs.declared.Command.the-variants.{RemoveFromGroup, GetGroupInfo}
 pub use Rattle.words.specs.declared.Decoded.{Decoded}
 pub use Rattle.words.specs.declared.Decoded.the-variants.{Is}
 pub use Rattle.words.specs.declared.Kind.{Kind}
-pub use Rattle.words.specs.declared.Kind.the-variants.{Devices, Binds, Groups, Members}
+pub use Rattle.words.specs.declared.Kind.the-variants.{Devices, Binds, Groups, Members, Sessions}
 pub use Rattle.words.specs.declared.Outcome.{Outcome}
 pub use Rattle.words.specs.declared.Outcome.the-variants.{Done, Forwarded, Nobody, WrongLength, WrongDataLength, WrongType, NoSource, NoDestination}
 pub use Rattle.words.specs.declared.Outcome.the-variants.{ResponseToMany, Unsound, NoRoom, NoCopy, OutOfRange, AlreadyAdmitted, NoFreeRecord, NotAdmitted}

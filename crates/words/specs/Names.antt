@@ -20,8 +20,15 @@ notAuthorized = code 0x01
 abbrev pub invalidArgument : Code
 invalidArgument = code 0x02
 
+-- "Read session not established"
+abbrev pub noReadSession : Code
+noReadSession = code 0x20
+
 abbrev pub notEnoughResources : Code
 notEnoughResources = code 0xFE
+
+abbrev pub unknownReason : Code
+unknownReason = code 0xFF
 
 -- addresses
 
@@ -106,7 +113,7 @@ bindManagement = 0x0002
 abbrev pub groupManagement : ℕ
 groupManagement = 0x0003
 
--- members of Bind Management (document 000, 6.2.5.1 to 6.2.5.6), numbered as their sections follow each other: docs/DECISIONS.md, 1
+-- members of Bind Management (document 000, 6.2.5.1 to 6.2.5.6, Table 26), numbered as their sections follow each other: docs/DECISIONS.md, 1
 
 abbrev pub addBind : ℕ
 addBind = 0x01
@@ -125,6 +132,29 @@ removeByDestination = 0x05
 
 abbrev pub removeByDestinationUnit : ℕ
 removeByDestinationUnit = 0x06
+
+-- .. and those of Table 27 (6.2.5.7 to 6.2.5.13)
+
+abbrev pub startSession : ℕ
+startSession = 0x07
+
+abbrev pub endSession : ℕ
+endSession = 0x08
+
+abbrev pub getByIndex : ℕ
+getByIndex = 0x09
+
+abbrev pub getBySource : ℕ
+getBySource = 0x0A
+
+abbrev pub getBySourceUnit : ℕ
+getBySourceUnit = 0x0B
+
+abbrev pub getByDestination : ℕ
+getByDestination = 0x0C
+
+abbrev pub getByDestinationUnit : ℕ
+getByDestinationUnit = 0x0D
 
 -- members of Group Management (document 000, 6.3.5.1 to 6.3.5.5), numbered likewise
 

@@ -41,7 +41,7 @@ pub enum Destination {
     Group(GroupAddress),
 }
 
-// The octets of a bind that a removal compares.
+// The octets of a bind that a removal or a read compares.
 pub enum BindPart {
     Whole,
     Source,
@@ -50,10 +50,19 @@ pub enum BindPart {
     DestinationUnit,
 }
 
+// Which binds a Get Bind Entries command asks for: by their index, or by a part, which is never the whole.
+pub enum Filter {
+    Index,
+    Part(BindPart),
+}
+
 // The commands of the two services.
 pub enum Command {
     AddBind,
     RemoveBinds(BindPart),
+    StartSession,
+    EndSession,
+    GetEntries(Filter),
     CreateGroup,
     DeleteGroup,
     AddToGroup,
@@ -73,6 +82,7 @@ pub enum Kind {
     Binds,
     Groups,
     Members,
+    Sessions,
 }
 
 // What a public call answers (document 01, Outcomes). `Done` holds a length, `Forwarded` the number of recipients.

@@ -15,6 +15,20 @@ impl Command {
 
     pub const REMOVE_BY_DESTINATION_UNIT: u8 = 0x06;
 
+    pub const START_SESSION: u8 = 0x07;
+
+    pub const END_SESSION: u8 = 0x08;
+
+    pub const GET_BY_INDEX: u8 = 0x09;
+
+    pub const GET_BY_SOURCE: u8 = 0x0A;
+
+    pub const GET_BY_SOURCE_UNIT: u8 = 0x0B;
+
+    pub const GET_BY_DESTINATION: u8 = 0x0C;
+
+    pub const GET_BY_DESTINATION_UNIT: u8 = 0x0D;
+
     // Members of Group Management.
     pub const CREATE_GROUP: u8 = 0x01;
 

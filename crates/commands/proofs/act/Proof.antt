@@ -15,4 +15,6 @@ act-spec =
     (λ c. search arms) (λ c. search arms) (λ c. search arms) (λ c. search arms) (λ c. search arms) (λ c. search arms) (λ c. search arms) (λ c. search arms)
     (λ c. search arms) (λ c. search arms) (λ c. search arms) (λ c. search arms) (λ c. search arms) (λ c. search arms) (λ c. search arms) (λ c. search arms)
     (λ c. search arms) (λ c. search arms) (λ c. search arms) (λ c. search arms) (λ c. search arms) (λ c. search arms) (λ c. search arms) (λ c. search arms)
-    (λ c. search arms) (λ c. search arms) (λ c. search arms) (λ c. search arms) (λ c. search arms))
+    (λ c. search arms) (λ c. search arms) (λ c. search arms) (λ c. search arms) (λ c. search arms) (λ c. search arms) (λ c. search arms) (λ c. search arms)
+    (λ c. search arms) (λ c. search arms) (λ c. search arms) (λ c. search arms) (λ c. search arms) (λ c. search arms) (λ c. search arms) (λ c. search arms)
+    (λ c. search arms) (λ c. search arms) (λ c. search arms) (λ c. search arms) (λ c. search arms) (λ c. search arms) (λ c. search arms))

@@ -1,4 +1,4 @@
--- `creating::create` meets its contract: what `create_group` and `write_created` answer, at the new address.
+-- `creating::create` meets its contract: what `create_group` and `write_word` answer, at the new address.
 use Rattle.words.specs.Basics.{needs}
 use Rattle.creating.proofs.Created.{makes}
 use Rattle.creating.proofs.create.Statement.{statement}
@@ -7,7 +7,7 @@ use Rattle.creating.proofs.create.Tie as tie
 returns : tie.Need-returns
 returns c =
     let created = c .before .before .before .before .before .before in
-    makes _ _ _ (created .before .before .new-group .ensures) (created .create-group .ensures) (c .before .before .write-created .ensures)
+    makes _ _ _ (created .before .before .new-group .ensures) (created .create-group .ensures) (c .before .before .write-word .ensures)
 
 pub create-spec : {M : Type 1} → statement M
 create-spec =

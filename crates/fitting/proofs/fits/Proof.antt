@@ -31,11 +31,16 @@ returns-4 c =
     let whole = whole-record (size Members) (start .args .rec .now) (start .pre ∙ ap size (m .enum-told4 .given .1)) in
     rw (m .enum-told4 .given .1) (c .member-fits .ensures ∙ rw (c .before .member-at .ensures, whole))
 
+returns-5 : tie.Need-returns-5
+unfolding fits
+returns-5 c = rw (c .before .enum-told5 .given .1) (c .session-fits .ensures)
+
 pub fits-spec : {M : Type 1} → statement M
 fits-spec = tie.close
     (tie.spec
     (λ c. search needs) (λ c κs. c .before .before .before .before .before .pre ∙ ap size (c .enum-told .given .1)) (λ c. search needs)
     (λ c κs. omega (arith, c .before .before .before .before .before .pre ∙ ap size (c .enum-told2 .given .1))) (λ c κs. search needs)
     (λ c. search needs) (λ c κs. c .before .before .before .before .before .pre ∙ ap size (c .enum-told3 .given .1)) (λ c. search needs)
-    (λ c κs. omega (arith, c .before .before .before .before .before .pre ∙ ap size (c .enum-told4 .given .1))) (λ c κs. search needs) returns
-    returns-2 returns-3 returns-4)
+    (λ c κs. omega (arith, c .before .before .before .before .before .pre ∙ ap size (c .enum-told4 .given .1))) (λ c κs. search needs)
+    (λ c. search needs) (λ c κs. c .before .before .before .before .before .pre ∙ ap size (c .enum-told5 .given .1)) returns
+    returns-2 returns-3 returns-4 returns-5)
