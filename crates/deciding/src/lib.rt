@@ -95,18 +95,19 @@ pub fn way_of(
     binds: &[u8],
     groups: &[u8],
     members: &[u8],
+    sessions: &[u8],
     read: Reading,
     reply: &[u8],
     list: &[u8],
 ) -> Way
     ensures { λ r. ⌜ ((m : List ℕ) → read ≡ reading m
-        → r ≡ way (lent (now (devices .entry)) (now (binds .entry)) (now (groups .entry)) (now (members .entry))) m
+        → r ≡ way (lent (now (devices .entry)) (now (binds .entry)) (now (groups .entry)) (now (members .entry)) (now (sessions .entry))) m
         (now (reply .entry)) (now (list .entry))) ⌝ }
 {
     if !roomy(binds, members, reply, list) {
         return Way::Refuse(Outcome::NoRoom);
     }
-    if !soundness::sound(devices, binds, groups, members) {
+    if !soundness::sound(devices, binds, groups, members, sessions) {
         return Way::Refuse(Outcome::Unsound);
     }
     let outcome = read.outcome;

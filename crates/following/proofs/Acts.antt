@@ -11,7 +11,7 @@ use Rattle.rules.specs.Recipients.{recipients}
 use Rattle.rules.specs.Commands.{judge, done, replyPayload}
 use Rattle.rules.specs.Calls.{answer, answered, handled, forwarded}
 use Rattle.messages.proofs.Replies.{reply-behind, within-room}
-use Rattle.commands.specs.Perform.{Performed, performed, performing}
+use Rattle.commands.specs.Perform.{Performed, performed, performing, judging}
 use Rattle.units.specs.Listing.{Listing}
 
 -- Serving
@@ -24,7 +24,7 @@ behind-length : (old : List ℕ) → longest ≤ length old → length (behind o
 behind-length old h = length-take-le (longest - headerLength) (drop headerLength old) (rw length-drop (omega arith))
 
 module _ (L : Lent) (k : Command) (f : Fields) (p old : List ℕ) {L' : Lent} {part : List ℕ} {n : ℕ} (h : longest ≤ length old)
-    (s : length part ≡ length (behind old)) (d : performed n L' part ≡ performing L k p (judge (tables L) (f .source) k p) (behind old)) where
+    (s : length part ≡ length (behind old)) (d : performed n L' part ≡ judging L (f .source) k p (behind old)) where
   abbrev payloadOf : List ℕ
   payloadOf = replyPayload (tables L) k p (judge (tables L) (f .source) k p)
 
@@ -45,7 +45,7 @@ module _ (L : Lent) (k : Command) (f : Fields) (p old : List ℕ) {L' : Lent} {p
       ≡ handled L k f p old []
   unfolding handled answered performing
   serves =
-      let eL : L' ≡ changed (done (tables L) k p (judge (tables L) (f .source) k p)) L = ap (λ (y : Performed). y .tables) d in
+      let eL : L' ≡ changed (done (tables L) (f .source) k p (judge (tables L) (f .source) k p)) L = ap (λ (y : Performed). y .tables) d in
       rw (
         written-length,
         eL,

@@ -6,7 +6,7 @@ use Rattle.messages.specs.Ranges.{Ranged}
 use Rattle.commands.specs.Perform.{Workable}
 
 -- a command that can be served: sound tables, fields that a header has room for, room for the longest reply
-pub record Servable (ds bs gs ms : List ℕ) (f : Fields) (reply : List ℕ) : Type 0 where
-  pub tables : Workable ds bs gs ms
+pub record Servable (ds bs gs ms ss : List ℕ) (f : Fields) (reply : List ℕ) : Type 0 where
+  pub tables : Workable ds bs gs ms ss
   pub request : Ranged f
   pub room : longest ≤ length reply

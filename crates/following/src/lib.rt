@@ -17,15 +17,16 @@ pub fn serve(
     binds: &mut [u8],
     groups: &mut [u8],
     members: &mut [u8],
+    sessions: &mut [u8],
     command: Command,
     f: Fields,
     payload: &[u8],
     reply: &mut [u8],
 ) -> Outcome
-    requires { ⌜ Servable (now devices) (now binds) (now groups) (now members) f (now reply) ⌝ }
+    requires { ⌜ Servable (now devices) (now binds) (now groups) (now members) (now sessions) f (now reply) ⌝ }
     ensures { λ r. ⌜ ((L : Lent)
-        → answer r (beside L (now (devices .entry)) (now (binds .exit)) (now (groups .exit)) (now (members .exit))) (now (reply .exit)) []
-        ≡ handled (beside L (now (devices .entry)) (now (binds .entry)) (now (groups .entry)) (now (members .entry))) command f
+        → answer r (beside L (now (devices .entry)) (now (binds .exit)) (now (groups .exit)) (now (members .exit)) (now (sessions .exit))) (now (reply .exit)) []
+        ≡ handled (beside L (now (devices .entry)) (now (binds .entry)) (now (groups .entry)) (now (members .entry)) (now (sessions .entry))) command f
         (now (payload .entry)) (now (reply .entry)) []) ⌝ }
 {
     let n = commands::perform(
@@ -33,6 +34,7 @@ pub fn serve(
         binds,
         groups,
         members,
+        sessions,
         f.source,
         command,
         payload,

@@ -1,16 +1,17 @@
 -- Laws of the host's calls: where a check fails, nothing changes; where none does, the octets written are the call's change.
-use Rattle.words.specs.Basics.{_≡_, sym, _∙_, Bool, true, false, not, _||_, List, ℕ, _%_, _<_, arith, length, not-true, eq-eqb, not-false, ne-eqb}
+use Rattle.words.specs.Basics.{_≡_, refl, sym, ap, _∙_, Bool, true, false, cond, not, _||_, or-true, List, [], _∷_, ℕ, _%_, _<_, arith, length, not-true, eq-eqb, not-false, ne-eqb}
 use Rattle.words.specs.Outcomes.{numberOf}
 use Rattle.words.specs.declared.BindPart.the-variants.{Source, Destination}
-use Rattle.rules.specs.Types.{DeviceAddress, Kind, Devices, Binds, Members, Outcome, Done, Unsound, OutOfRange, AlreadyAdmitted, NoFreeRecord, NotAdmitted}
-use Rattle.rules.specs.Lists.{ask}
+use Rattle.rules.specs.Types.{DeviceAddress, Kind, Devices, Binds, Members, Sessions, Outcome, Done, Unsound, OutOfRange, AlreadyAdmitted, NoFreeRecord, NotAdmitted}
+use Rattle.rules.specs.Lists.{ask, any}
 use Rattle.rules.specs.Octets.{octets}
-use Rattle.rules.specs.Tables.{Rec, records, someFree, matches, addressed, clear, store, wipe, written}
+use Rattle.rules.specs.Tables.{Rec, records, used, someFree, matches, addressed, clear, store, wipe, written}
 use Rattle.rules.specs.Layout.{size, partStart, partIs, deviceRecord}
 use Rattle.rules.specs.Frame.{Lent, lentOf, tables, also, nothing, changed}
 use Rattle.rules.specs.Exists.{admitted}
 use Rattle.rules.specs.Sound.{deviceInRange, sound}
-use Rattle.rules.specs.Host.{hostAnswer, settled, admitting, admission, admit, namesDevice, releasing, release}
+use Rattle.rules.specs.Sessions.{alters, closing}
+use Rattle.rules.specs.Host.{hostAnswer, settled, admitting, admission, admit, namesDevice, taking, releasing, release}
 use Rattle.rules.proofs.Frames.{replaced}
 use Rattle.rules.proofs.Records.{each-records, each-clear, records-bytes, clear-twice}
 use Rattle.rules.proofs.Kept.{whole-at, whole-length}
@@ -71,7 +72,24 @@ wipe-twice : (k : ℕ) (p q : Rec → Bool) (t : List ℕ) → 0 < k → written
 unfolding written
 wipe-twice k p q t h = rw (records-bytes k (clear p (records k t)) h (each-clear k p (records k t) (each-records k t)), clear-twice p q (records k t))
 
+-- one of two tests is passed: the first is, or the second
+any-or : (p q : Rec → Bool) (l : List Rec) → any (λ r. p r || q r) l ≡ (any p l || any q l)
+unfolding any
+any-or p q [] = refl
+any-or p q (r ∷ l) = step (p r) (q r) (any-or p q l)
+  where
+    step : (a b : Bool) → any (λ r. p r || q r) l ≡ (any p l || any q l) → (a || b || any (λ r. p r || q r) l) ≡ (a || any p l || (b || any q l))
+    step true b ih = refl
+    step false true ih = sym (or-true (any p l))
+    step false false ih = ih
+
 module _ (d : DeviceAddress) where
+  -- by source, or by individual destination
+  pub named-by : (t : List Rec) {i j : ℕ} {w : List ℕ} {a b : Bool} → w ≡ octets (d .0) → i ≡ partStart Source → j ≡ partStart Destination
+      → a ≡ any (matches i w) (used t) → b ≡ any (matches j w) (used t) → (a || b) ≡ any (namesDevice d) (used t)
+  unfolding namesDevice partIs
+  named-by t e i j h g = rw (h, g, e, i, j) (sym (any-or (partIs Source (octets (d .0))) (partIs Destination (octets (d .0))) (used t)))
+
   -- by source, and then by individual destination
   pub binds-freed : (t : List ℕ) {i j : ℕ} {w u v : List ℕ} → w ≡ octets (d .0) → i ≡ partStart Source → j ≡ partStart Destination
       → u ≡ written (size Binds) (wipe (matches i w)) t → v ≡ written (size Binds) (wipe (matches j w)) u → v ≡ written (size Binds) (wipe (namesDevice d)) t
@@ -81,10 +99,10 @@ module _ (d : DeviceAddress) where
   -- all that release takes, by the octets of the address
   pub device-freed : (ds bs ms : List ℕ) {w u v t : List ℕ} → w ≡ octets (d .0) → u ≡ written (size Devices) (wipe (matches 0 w)) ds
       → v ≡ written (size Binds) (wipe (namesDevice d)) bs → t ≡ written (size Members) (wipe (matches 2 w)) ms
-      → (u ≡ written (size Devices) (releasing d Devices) ds)
-      × (v ≡ written (size Binds) (releasing d Binds) bs)
-      × (t ≡ written (size Members) (releasing d Members) ms)
-  unfolding releasing also addressed
+      → (u ≡ written (size Devices) (taking d Devices) ds)
+      × (v ≡ written (size Binds) (taking d Binds) bs)
+      × (t ≡ written (size Members) (taking d Members) ms)
+  unfolding taking also addressed
   device-freed ds bs ms e f g h = (rw (f, e), g, rw (h, e))
 
 module _ (L : Lent) {b : Bool} (e : b ≡ sound L) (d : DeviceAddress) where
@@ -96,11 +114,22 @@ module _ (L : Lent) {b : Bool} (e : b ≡ sound L) (d : DeviceAddress) where
   unfolding release settled ask
   release-unknown s a = rw (passed e s, a)
 
-  -- the groups stay
-  pub release-done : {ds bs ms : List ℕ} → not b ≡ false → admitted (tables L Devices) d ≡ true
-      → (ds ≡ written (size Devices) (releasing d Devices) (L .devices))
-      × (bs ≡ written (size Binds) (releasing d Binds) (L .binds))
-      × (ms ≡ written (size Members) (releasing d Members) (L .members))
-      → hostAnswer (Done 0) (replaced Devices ds (replaced Binds bs (replaced Members ms L))) ≡ release L d
-  unfolding release settled ask changed releasing also nothing written replaced
-  release-done s a w = rw (passed e s, a, w .0, w .1, w .2)
+  -- the groups stay, and sessions are closed where a bind named the device
+  pub release-done : {ds bs ms ss : List ℕ} {named : Bool} → not b ≡ false → admitted (tables L Devices) d ≡ true
+      → (ds ≡ written (size Devices) (taking d Devices) (L .devices))
+      × (bs ≡ written (size Binds) (taking d Binds) (L .binds))
+      × (ms ≡ written (size Members) (taking d Members) (L .members))
+      → named ≡ any (namesDevice d) (used (tables L Binds))
+      → ss ≡ cond named (written (size Sessions) (wipe (λ r. true)) (L .sessions)) (written (size Sessions) (wipe (addressed (d .0))) (L .sessions))
+      → hostAnswer (Done 0) (replaced Devices ds (replaced Binds bs (replaced Members ms (replaced Sessions ss L)))) ≡ release L d
+  unfolding release settled ask changed releasing closing alters taking also nothing written replaced
+  release-done {ds} {bs} {ms} {ss} {named} s a w n h = rw (passed e s, a, ← n, w .0, w .1, w .2, h) (ap (hostAnswer (Done 0)) (whole named))
+    where
+      frees : (k : Kind) → List ℕ
+      frees k = written (size k) (taking d k) (lentOf k L)
+
+      whole : (b : Bool) → replaced Devices (frees Devices) (replaced Binds (frees Binds) (replaced Members (frees Members)
+          (replaced Sessions (cond b (written (size Sessions) (wipe (λ r. true)) (L .sessions)) (frees Sessions)) L)))
+          ≡ changed (cond b (also Sessions (wipe (λ r. true)) (taking d)) (taking d)) L
+      whole true = refl
+      whole false = refl

@@ -17,7 +17,7 @@ use Rattle.hosting.proofs.release.Reads as release-reads
 
 module _ (κs : Lfts (admit.signature .lifetimes)) (a : World.ArgsD admit.signature κs) where
   abbrev pub admit-answer : World.ResD admit.signature κs → Clauses.AtExit (K.endedOf _ admit-kinds.ps admit-kinds.r) κs → HostAnswer
-  admit-answer r s = hostAnswer r (lent (now (s .0)) (now (a .1 .0)) (now (a .1 .1 .0)) (now (a .1 .1 .1 .0)))
+  admit-answer r s = hostAnswer r (lent (now (s .0)) (now (a .1 .0)) (now (a .1 .1 .0)) (now (a .1 .1 .1 .0)) (now (a .1 .1 .1 .1 .0)))
 
   pub admit-once : (r r' : World.ResD admit.signature κs) (s s' : Clauses.AtExit (K.endedOf _ admit-kinds.ps admit-kinds.r) κs)
       → admit-reads.Post κs a r s → admit-reads.Post κs a r' s' → admit-answer r s ≡ admit-answer r' s'
@@ -25,7 +25,7 @@ module _ (κs : Lfts (admit.signature .lifetimes)) (a : World.ArgsD admit.signat
 
 module _ (κs : Lfts (release.signature .lifetimes)) (a : World.ArgsD release.signature κs) where
   abbrev pub release-answer : World.ResD release.signature κs → Clauses.AtExit (K.endedOf _ release-kinds.ps release-kinds.r) κs → HostAnswer
-  release-answer r s = hostAnswer r (lent (now (s .0)) (now (s .1 .0)) (now (a .1 .1 .0)) (now (s .1 .1 .1 .0)))
+  release-answer r s = hostAnswer r (lent (now (s .0)) (now (s .1 .0)) (now (a .1 .1 .0)) (now (s .1 .1 .1 .0)) (now (s .1 .1 .1 .1 .0)))
 
   pub release-once : (r r' : World.ResD release.signature κs) (s s' : Clauses.AtExit (K.endedOf _ release-kinds.ps release-kinds.r) κs)
       → release-reads.Post κs a r s → release-reads.Post κs a r' s' → release-answer r s ≡ release-answer r' s'

@@ -8,10 +8,11 @@ use words::DeviceAddress;
 use words::Outcome;
 ghost use Rattle.words.specs.Basics.{_≡_, _%_, length};
 ghost use Rattle.rules.specs.Types.{Devices, Binds, Members};
-ghost use Rattle.rules.specs.Tables.{wipe, written};
+ghost use Rattle.rules.specs.Lists.{any};
+ghost use Rattle.rules.specs.Tables.{used, wipe, written};
 ghost use Rattle.rules.specs.Layout.{size};
 ghost use Rattle.rules.specs.Frame.{lent, table};
-ghost use Rattle.rules.specs.Host.{hostAnswer, admission, admit, namesDevice, releasing, release};
+ghost use Rattle.rules.specs.Host.{hostAnswer, admission, admit, namesDevice, taking, release};
 
 // "Admit: 16, 20, 21, 22, else 0.", behind 16. It looks, and writes nothing.
 fn admission(devices: &[u8], address: DeviceAddress, rights: u8, units: &[u8; 32]) -> Outcome
@@ -38,14 +39,16 @@ pub fn admit(
     binds: &[u8],
     groups: &[u8],
     members: &[u8],
+    sessions: &[u8],
     address: DeviceAddress,
     rights: u8,
     units: &[u8; 32],
 ) -> Outcome
-    ensures { λ r. ⌜ hostAnswer r (lent (now (devices .exit)) (now (binds .entry)) (now (groups .entry)) (now (members .entry)))
-        ≡ admit (lent (now (devices .entry)) (now (binds .entry)) (now (groups .entry)) (now (members .entry))) address rights (now (units .entry)) ⌝ }
+    ensures { λ r. ⌜ hostAnswer r (lent (now (devices .exit)) (now (binds .entry)) (now (groups .entry)) (now (members .entry)) (now (sessions .entry)))
+        ≡ admit (lent (now (devices .entry)) (now (binds .entry)) (now (groups .entry)) (now (members .entry)) (now (sessions .entry))) address rights
+        (now (units .entry)) ⌝ }
 {
-    if !soundness::sound(devices, binds, groups, members) {
+    if !soundness::sound(devices, binds, groups, members, sessions) {
         return Outcome::Unsound;
     }
     let outcome = admission(devices, address, rights, units);
@@ -56,7 +59,17 @@ pub fn admit(
     outcome
 }
 
-// "all binds that name it as source or individual destination": the flag of octet 6 is 0 in a device's address.
+// Does a bind name the device "as source or individual destination"? The flag of octet 6 is 0 in a device's address.
+fn is_named(binds: &[u8], device: DeviceAddress) -> bool
+    ensures { λ r. ⌜ r ≡ any (namesDevice device) (used (table Binds (now (binds .entry)))) ⌝ }
+{
+    let named = layouts::address_octets(device.0);
+    let source = records::has(binds, BIND, bind_records::SOURCE, &named);
+    let destination = records::has(binds, BIND, bind_records::DESTINATION, &named);
+    source | destination
+}
+
+// All binds that name it.
 fn free_binds(binds: &mut [u8], device: DeviceAddress)
     requires { ⌜ length (now binds) % size Binds ≡ 0 ⌝ }
     ensures { λ _. ⌜ now (binds .exit) ≡ written (size Binds) (wipe (namesDevice device)) (now (binds .entry)) ⌝ }
@@ -71,9 +84,9 @@ fn free_binds(binds: &mut [u8], device: DeviceAddress)
 // "Release takes the device, its members and all binds that name it". No group goes with a device.
 fn free_device(devices: &mut [u8], binds: &mut [u8], members: &mut [u8], device: DeviceAddress)
     requires { ⌜ (length (now devices) % size Devices ≡ 0) × (length (now binds) % size Binds ≡ 0) × (length (now members) % size Members ≡ 0) ⌝ }
-    ensures { λ _. ⌜ (now (devices .exit) ≡ written (size Devices) (releasing device Devices) (now (devices .entry)))
-        × (now (binds .exit) ≡ written (size Binds) (releasing device Binds) (now (binds .entry)))
-        × (now (members .exit) ≡ written (size Members) (releasing device Members) (now (members .entry))) ⌝ }
+    ensures { λ _. ⌜ (now (devices .exit) ≡ written (size Devices) (taking device Devices) (now (devices .entry)))
+        × (now (binds .exit) ≡ written (size Binds) (taking device Binds) (now (binds .entry)))
+        × (now (members .exit) ≡ written (size Members) (taking device Members) (now (members .entry))) ⌝ }
 {
     let address = layouts::address_octets(device.0);
     records::free_matching(devices, DEVICE, 0, &address);
@@ -87,17 +100,20 @@ pub fn release(
     binds: &mut [u8],
     groups: &[u8],
     members: &mut [u8],
+    sessions: &mut [u8],
     address: DeviceAddress,
 ) -> Outcome
-    ensures { λ r. ⌜ hostAnswer r (lent (now (devices .exit)) (now (binds .exit)) (now (groups .entry)) (now (members .exit)))
-        ≡ release (lent (now (devices .entry)) (now (binds .entry)) (now (groups .entry)) (now (members .entry))) address ⌝ }
+    ensures { λ r. ⌜ hostAnswer r (lent (now (devices .exit)) (now (binds .exit)) (now (groups .entry)) (now (members .exit)) (now (sessions .exit)))
+        ≡ release (lent (now (devices .entry)) (now (binds .entry)) (now (groups .entry)) (now (members .entry)) (now (sessions .entry))) address ⌝ }
 {
-    if !soundness::sound(devices, binds, groups, members) {
+    if !soundness::sound(devices, binds, groups, members, sessions) {
         return Outcome::Unsound;
     }
     if !existing::is_admitted(devices, address) {
         return Outcome::NotAdmitted;
     }
+    let named = is_named(binds, address);
     free_device(devices, binds, members, address);
+    sessions::release(sessions, address, named);
     Outcome::Done(0)
 }

@@ -37,7 +37,7 @@ module _ (L : Lent) (m r l : List ℕ) {x : Way} (e : x ≡ way L m r l) where
     pub has-header : headerLength ≤ length m
     has-header = long-enough m (acts .length)
 
-    pub servable : {y : Reading} → y ≡ reading m → Servable (L .devices) (L .binds) (L .groups) (L .members) (y .fields) r
+    pub servable : {y : Reading} → y ≡ reading m → Servable (L .devices) (L .binds) (L .groups) (L .members) (L .sessions) (y .fields) r
     unfolding roomy
     servable q = record {
       tables = record { lent = L; sound = acts .sound };
@@ -46,10 +46,10 @@ module _ (L : Lent) (m r l : List ℕ) {x : Way} (e : x ≡ way L m r l) where
     }
 
     -- whatever else is lent stays
-    pub handled-whole : {y : Reading} {o : Outcome} {bs gs ms r' : List ℕ} → y ≡ reading m
-        → ((X : Lent) → answer o (beside X (L .devices) bs gs ms) r' []
-        ≡ handled (beside X (L .devices) (L .binds) (L .groups) (L .members)) k (y .fields) (midOf headerLength (length m - headerLength) m) r [])
-        → answer o (beside L (L .devices) bs gs ms) r' l ≡ message L m r l
+    pub handled-whole : {y : Reading} {o : Outcome} {bs gs ms ss r' : List ℕ} → y ≡ reading m
+        → ((X : Lent) → answer o (beside X (L .devices) bs gs ms ss) r' []
+        ≡ handled (beside X (L .devices) (L .binds) (L .groups) (L .members) (L .sessions)) k (y .fields) (midOf headerLength (length m - headerLength) m) r [])
+        → answer o (beside L (L .devices) bs gs ms ss) r' l ≡ message L m r l
     unfolding message follow handled answered payload
     handled-whole q a =
         rw (sym e ∙ w, ← fields-read acts q, ← rest-is headerLength m) (ap (λ (z : Answer). answer (z .outcome) (z .tables) (z .reply) l) (a L))

@@ -14,7 +14,8 @@ use Rattle.hub.proofs.message.Reads as message-reads
 abbrev pub message-answer : (κs : Lfts (message.signature .lifetimes)) (r : World.ResD message.signature κs)
     (s : Clauses.AtExit (K.endedOf _ message-kinds.ps message-kinds.r) κs) → Answer
 message-answer κs r s =
-    answer r (lent (now (s .0)) (now (s .1 .0)) (now (s .1 .1 .0)) (now (s .1 .1 .1 .0))) (now (s .1 .1 .1 .1 .1 .0)) (now (s .1 .1 .1 .1 .1 .1 .0))
+    answer r (lent (now (s .0)) (now (s .1 .0)) (now (s .1 .1 .0)) (now (s .1 .1 .1 .0)) (now (s .1 .1 .1 .1 .0)))
+    (now (s .1 .1 .1 .1 .1 .1 .0)) (now (s .1 .1 .1 .1 .1 .1 .1 .0))
 
 pub message-once : (κs : Lfts (message.signature .lifetimes)) (a : World.ArgsD message.signature κs) (r r' : World.ResD message.signature κs)
     (s s' : Clauses.AtExit (K.endedOf _ message-kinds.ps message-kinds.r) κs)

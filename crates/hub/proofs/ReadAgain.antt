@@ -22,10 +22,10 @@ use Rattle.hub.proofs.read.Reads as read-reads
 module _ (κs : Lfts (message.signature .lifetimes)) (a : World.ArgsD message.signature κs) (r : World.ResD message.signature κs)
     (s : Clauses.AtExit (K.endedOf _ message-kinds.ps message-kinds.r) κs) (p : message-reads.Post κs a r s) (n : ℕ) (e : r ≡ Done n) where
   abbrev tables : Lent
-  tables = lent (now (a .0)) (now (a .1 .0)) (now (a .1 .1 .0)) (now (a .1 .1 .1 .0))
+  tables = lent (now (a .0)) (now (a .1 .0)) (now (a .1 .1 .0)) (now (a .1 .1 .1 .0)) (now (a .1 .1 .1 .1 .0))
 
   abbrev msg : List ℕ
-  msg = now (a .1 .1 .1 .1 .0)
+  msg = now (a .1 .1 .1 .1 .1 .0)
 
   abbrev written : List ℕ
   written = message-answer κs r s .reply
@@ -33,7 +33,7 @@ module _ (κs : Lfts (message.signature .lifetimes)) (a : World.ArgsD message.si
   pub replied : Replied tables msg written n
   replied =
       rw (ap (λ (x : Answer). x .reply) p)
-      (reply-again tables msg (now (a .1 .1 .1 .1 .1 .0)) (now (a .1 .1 .1 .1 .1 .1 .0)) n (sym (ap (λ (x : Answer). x .outcome) p) ∙ e))
+      (reply-again tables msg (now (a .1 .1 .1 .1 .1 .1 .0)) (now (a .1 .1 .1 .1 .1 .1 .1 .0)) n (sym (ap (λ (x : Answer). x .outcome) p) ∙ e))
 
   pub read-again : (κ : Lfts (read.signature .lifetimes)) (b : World.ArgsD read.signature κ) (q : World.ResD read.signature κ)
       (t : Clauses.AtExit (K.endedOf _ read-kinds.ps read-kinds.r) κ) → now (b .0) ≡ take n written → read-reads.Post κ b q t

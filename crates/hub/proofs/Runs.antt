@@ -1,5 +1,5 @@
 -- From contracts to runs: `message`, `admit` and `release` are called one after the other, each on the tables that the call before it left, and each meets
--- its contract. What their callers are told is then the history of a run of the rules, and condition 3 holds of it.
+-- its contract. What their callers are told is then the history of a run of the rules, and condition 3 holds of it, and what is read back is the sheet.
 use contract.Lifetimes.{Lfts}
 use borrow.Fn.World
 use borrow.Fn.Kinds as K
@@ -8,7 +8,7 @@ use Rattle.words.specs.Basics.{_≡_, true, List, now}
 use Rattle.rules.specs.Lists.{all}
 use Rattle.rules.specs.Frame.{Lent, lent}
 use Rattle.rules.specs.History.{Call, sends, admits, releases, Said, after, Event, history, octetsOnly, freeTables}
-use Rattle.rules.specs.Seen.{saidBy, saidByHost, Seen, calls, SeenHolds}
+use Rattle.rules.specs.Seen.{saidBy, saidByHost, Seen, calls, SeenHolds, SeenReads}
 use Rattle.rules.proofs.Seen as seen
 use Rattle.hosting.proofs.Once.{admit-answer, release-answer}
 use Rattle.hub.proofs.Once.{message-answer}
@@ -26,24 +26,24 @@ use Rattle.hub.proofs.release.Reads as release-reads
 
 module _ (κs : Lfts (message.signature .lifetimes)) (a : World.ArgsD message.signature κs) where
   abbrev message-lent : Lent
-  message-lent = lent (now (a .0)) (now (a .1 .0)) (now (a .1 .1 .0)) (now (a .1 .1 .1 .0))
+  message-lent = lent (now (a .0)) (now (a .1 .0)) (now (a .1 .1 .0)) (now (a .1 .1 .1 .0)) (now (a .1 .1 .1 .1 .0))
 
   abbrev message-call : Call
-  message-call = sends (now (a .1 .1 .1 .1 .0)) (now (a .1 .1 .1 .1 .1 .0)) (now (a .1 .1 .1 .1 .1 .1 .0))
+  message-call = sends (now (a .1 .1 .1 .1 .1 .0)) (now (a .1 .1 .1 .1 .1 .1 .0)) (now (a .1 .1 .1 .1 .1 .1 .1 .0))
 
 module _ (κs : Lfts (admit.signature .lifetimes)) (a : World.ArgsD admit.signature κs) where
   abbrev admit-lent : Lent
-  admit-lent = lent (now (a .0)) (now (a .1 .0)) (now (a .1 .1 .0)) (now (a .1 .1 .1 .0))
+  admit-lent = lent (now (a .0)) (now (a .1 .0)) (now (a .1 .1 .0)) (now (a .1 .1 .1 .0)) (now (a .1 .1 .1 .1 .0))
 
   abbrev admit-call : Call
-  admit-call = admits (a .1 .1 .1 .1 .0) (a .1 .1 .1 .1 .1 .0) (now (a .1 .1 .1 .1 .1 .1 .0))
+  admit-call = admits (a .1 .1 .1 .1 .1 .0) (a .1 .1 .1 .1 .1 .1 .0) (now (a .1 .1 .1 .1 .1 .1 .1 .0))
 
 module _ (κs : Lfts (release.signature .lifetimes)) (a : World.ArgsD release.signature κs) where
   abbrev release-lent : Lent
-  release-lent = lent (now (a .0)) (now (a .1 .0)) (now (a .1 .1 .0)) (now (a .1 .1 .1 .0))
+  release-lent = lent (now (a .0)) (now (a .1 .0)) (now (a .1 .1 .0)) (now (a .1 .1 .1 .0)) (now (a .1 .1 .1 .1 .0))
 
   abbrev release-call : Call
-  release-call = releases (a .1 .1 .1 .1 .0)
+  release-call = releases (a .1 .1 .1 .1 .1 .0)
 
 -- A call that was made on the tables L and met its contract, with its result r and the state at exit s: the call, what its caller was told, what it left
 pub data Meets (L : Lent) : Call → Said → Lent → Type 0 where
@@ -71,3 +71,7 @@ as-run s = seen.as-run right s
 -- speaks of lists of numbers, and what a lent slice can hold is known where it is read, not from the contract.
 pub seen-holds : {L₀ L : Lent} {h : List Event} → freeTables L₀ ≡ true → Seen Meets L₀ h L → all octetsOnly (calls h) ≡ true → SeenHolds Meets h L
 seen-holds f s o = seen.seen-holds right f s o
+
+-- and what is read back is the sheet
+pub seen-reads : {L₀ L : Lent} {h : List Event} → freeTables L₀ ≡ true → Seen Meets L₀ h L → all octetsOnly (calls h) ≡ true → SeenReads Meets L₀ h
+seen-reads f s o = seen.seen-reads right f s o

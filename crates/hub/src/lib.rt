@@ -18,17 +18,18 @@ pub fn message(
     binds: &mut [u8],
     groups: &mut [u8],
     members: &mut [u8],
+    sessions: &mut [u8],
     msg: &[u8],
     reply: &mut [u8],
     list: &mut [u8],
 ) -> Outcome
-    ensures { λ r. ⌜ answer r (lent (now (devices .exit)) (now (binds .exit)) (now (groups .exit)) (now (members .exit)))
+    ensures { λ r. ⌜ answer r (lent (now (devices .exit)) (now (binds .exit)) (now (groups .exit)) (now (members .exit)) (now (sessions .exit)))
         (now (reply .exit)) (now (list .exit))
-        ≡ message (lent (now (devices .entry)) (now (binds .entry)) (now (groups .entry)) (now (members .entry)))
+        ≡ message (lent (now (devices .entry)) (now (binds .entry)) (now (groups .entry)) (now (members .entry)) (now (sessions .entry)))
         (now (msg .entry)) (now (reply .entry)) (now (list .entry)) ⌝ }
 {
     let read = messages::read(msg);
-    let way = deciding::way_of(devices, binds, groups, members, read, reply, list);
+    let way = deciding::way_of(devices, binds, groups, members, sessions, read, reply, list);
     let f = read.fields;
     match way {
         Way::Refuse(outcome) => outcome,
@@ -37,6 +38,7 @@ pub fn message(
             binds,
             groups,
             members,
+            sessions,
             command,
             f,
             &msg[Fields::HEADER..],

@@ -94,3 +94,16 @@ pub fn close_all(sessions: &mut [u8], changed: bool)
     }
     records::free_matching(sessions, SESSION, 0, &[]);
 }
+
+// "a release closes that device's", and all where a bind named it.
+pub fn release(sessions: &mut [u8], device: DeviceAddress, named: bool)
+    requires { ⌜ length (now sessions) % size Sessions ≡ 0 ⌝ }
+    ensures { λ _. ⌜ now (sessions .exit) ≡ cond named (written (size Sessions) (wipe (λ r. true)) (now (sessions .entry)))
+        (written (size Sessions) (wipe (addressed (device .0))) (now (sessions .entry))) ⌝ }
+{
+    if named {
+        close_all(sessions, named);
+        return;
+    }
+    records::free_matching(sessions, SESSION, 0, &layouts::address_octets(device.0));
+}

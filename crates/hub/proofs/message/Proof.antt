@@ -10,19 +10,19 @@ to-read w = search w
 
 sub-serve : tie.Need-sub-serve
 sub-serve c =
-    let s = c .before .before .before .before .before in
+    let s : tie.After-way2 = search c in
     let w = s .before .before .before in
     omega (arith, has-header _ _ _ _ (w .way-of .ensures _ (to-read w .read .ensures)) (s .way2 .given .1))
 
 part-serve-start : tie.Need-part-serve-start
 part-serve-start c =
-    let s = c .before .before .before .before .before in
+    let s : tie.After-way2 = search c in
     let w = s .before .before .before in
     omega (arith, has-header _ _ _ _ (w .way-of .ensures _ (to-read w .read .ensures)) (s .way2 .given .1))
 
 serve-requires : tie.Need-serve-requires
 serve-requires c κs =
-    let s = c .before .before .before .before .before .before .before in
+    let s : tie.After-way2 = search c in
     let w = s .before .before .before in
     let read = to-read w .read .ensures in
     servable _ _ _ _ (w .way-of .ensures _ read) (s .way2 .given .1) read
@@ -41,8 +41,8 @@ returns c =
 
 returns-2 : tie.Need-returns-2
 returns-2 c =
-    let a = c .before .before .before .before .before .before .before .before in
-    let s = a .before .before .before .before .before .before .before .before in
+    let a : tie.After-serve = search c in
+    let s : tie.After-way2 = search c in
     let w = s .before .before .before in
     let read = to-read w .read .ensures in
     handled-whole _ _ _ _ (w .way-of .ensures _ read) (s .way2 .given .1) read (a .serve .ensures)
@@ -61,6 +61,7 @@ message-spec =
     (tie.spec
     (λ c κs. search needs) (λ c κs. search needs) (λ c. search needs) (λ c. search needs) sub-serve part-serve-start (λ c. search needs) serve-requires
     (λ c. search needs)
-    forward-requires (λ c. search needs) (λ c. search needs) (λ c. search needs) (λ c. search needs) (λ c. search needs) (λ c. search needs) returns
-    (λ c. search needs) (λ c. search needs) (λ c. search needs) (λ c. search needs) (λ c. search needs) (λ c. search needs) returns-2
-    (λ c. search needs) (λ c. search needs) (λ c. search needs) (λ c. search needs) (λ c. search needs) (λ c. search needs) returns-3)
+    forward-requires (λ c. search needs) (λ c. search needs) (λ c. search needs) (λ c. search needs) (λ c. search needs) (λ c. search needs) (λ c. search needs)
+    returns
+    (λ c. search needs) (λ c. search needs) (λ c. search needs) (λ c. search needs) (λ c. search needs) (λ c. search needs) (λ c. search needs) returns-2
+    (λ c. search needs) (λ c. search needs) (λ c. search needs) (λ c. search needs) (λ c. search needs) (λ c. search needs) (λ c. search needs) returns-3)
