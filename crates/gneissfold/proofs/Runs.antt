@@ -10,7 +10,7 @@ use Rattle.words.specs.Names.{device}
 use Rattle.rules.specs.Lists.{all}
 use Rattle.rules.specs.Frame.{Lent, lent}
 use Rattle.rules.specs.History.{Call, sends, admits, releases, Said, after, Event, history, octetsOnly, freeTables}
-use Rattle.rules.specs.Seen.{saidBy, saidByHost, Seen, calls, SeenHolds}
+use Rattle.rules.specs.Seen.{saidBy, saidByHost, Seen, calls, SeenHolds, SeenReads}
 use Rattle.rules.proofs.Hosted.{value-admit, value-release}
 use Rattle.rules.proofs.Seen as seen
 use Rattle.gneissfold.proofs.Telling.{answerOf, hostAnswerOf, message-told, host-told}
@@ -27,37 +27,37 @@ use Rattle.gneissfold.proofs.gneissfold_release.Reads as release-reads
 
 -- The tables that a call is lent, and the call itself, in its arguments
 
-module _ (κs : Lfts 8) (a : World.ArgsD gneissfold_message.signature κs) where
+module _ (κs : Lfts (gneissfold_message.signature .lifetimes)) (a : World.ArgsD gneissfold_message.signature κs) where
   abbrev message-lent : Lent
-  message-lent = lent (now (a .0)) (now (a .1 .0)) (now (a .1 .1 .0)) (now (a .1 .1 .1 .0))
+  message-lent = lent (now (a .0)) (now (a .1 .0)) (now (a .1 .1 .0)) (now (a .1 .1 .1 .0)) (now (a .1 .1 .1 .1 .0))
 
   abbrev message-call : Call
-  message-call = sends (now (a .1 .1 .1 .1 .0)) (now (a .1 .1 .1 .1 .1 .0)) (now (a .1 .1 .1 .1 .1 .1 .0))
+  message-call = sends (now (a .1 .1 .1 .1 .1 .0)) (now (a .1 .1 .1 .1 .1 .1 .0)) (now (a .1 .1 .1 .1 .1 .1 .1 .0))
 
-module _ (κs : Lfts 5) (a : World.ArgsD gneissfold_admit.signature κs) where
+module _ (κs : Lfts (gneissfold_admit.signature .lifetimes)) (a : World.ArgsD gneissfold_admit.signature κs) where
   abbrev admit-lent : Lent
-  admit-lent = lent (now (a .0)) (now (a .1 .0)) (now (a .1 .1 .0)) (now (a .1 .1 .1 .0))
+  admit-lent = lent (now (a .0)) (now (a .1 .0)) (now (a .1 .1 .0)) (now (a .1 .1 .1 .0)) (now (a .1 .1 .1 .1 .0))
 
   abbrev admit-call : Call
-  admit-call = admits (device (a .1 .1 .1 .1 .0)) (a .1 .1 .1 .1 .1 .0) (now (a .1 .1 .1 .1 .1 .1 .0))
+  admit-call = admits (device (a .1 .1 .1 .1 .1 .0)) (a .1 .1 .1 .1 .1 .1 .0) (now (a .1 .1 .1 .1 .1 .1 .1 .0))
 
-module _ (κs : Lfts 4) (a : World.ArgsD gneissfold_release.signature κs) where
+module _ (κs : Lfts (gneissfold_release.signature .lifetimes)) (a : World.ArgsD gneissfold_release.signature κs) where
   abbrev release-lent : Lent
-  release-lent = lent (now (a .0)) (now (a .1 .0)) (now (a .1 .1 .0)) (now (a .1 .1 .1 .0))
+  release-lent = lent (now (a .0)) (now (a .1 .0)) (now (a .1 .1 .0)) (now (a .1 .1 .1 .0)) (now (a .1 .1 .1 .1 .0))
 
   abbrev release-call : Call
-  release-call = releases (device (a .1 .1 .1 .1 .0))
+  release-call = releases (device (a .1 .1 .1 .1 .1 .0))
 
 -- A call that was made on the tables L and met its contract, with its result r and the state at exit s: the call, what its caller reads, what it left
 pub data Meets (L : Lent) : Call → Said → Lent → Type 0 where
-  by-message : (κs : Lfts 8) (a : World.ArgsD gneissfold_message.signature κs) (r : World.ResD gneissfold_message.signature κs)
-      (s : Clauses.AtExit (K.endedOf 8 message-kinds.ps message-kinds.r) κs) → message-lent κs a ≡ L → message-reads.Post κs a r s
+  by-message : (κs : Lfts (gneissfold_message.signature .lifetimes)) (a : World.ArgsD gneissfold_message.signature κs)
+      (r : World.ResD gneissfold_message.signature κs) (s : Clauses.AtExit (K.endedOf _ message-kinds.ps message-kinds.r) κs) → message-lent κs a ≡ L → message-reads.Post κs a r s
       → Meets L (message-call κs a) (saidBy (answerOf (message-tells κs a r s))) (message-tells κs a r s .tables)
-  by-admit : (κs : Lfts 5) (a : World.ArgsD gneissfold_admit.signature κs) (r : World.ResD gneissfold_admit.signature κs)
-      (s : Clauses.AtExit (K.endedOf 5 admit-kinds.ps admit-kinds.r) κs) → admit-lent κs a ≡ L → admit-reads.Post κs a r s
+  by-admit : (κs : Lfts (gneissfold_admit.signature .lifetimes)) (a : World.ArgsD gneissfold_admit.signature κs) (r : World.ResD gneissfold_admit.signature κs)
+      (s : Clauses.AtExit (K.endedOf _ admit-kinds.ps admit-kinds.r) κs) → admit-lent κs a ≡ L → admit-reads.Post κs a r s
       → Meets L (admit-call κs a) (saidByHost (hostAnswerOf (admit-tells κs a r s))) (admit-tells κs a r s .tables)
-  by-release : (κs : Lfts 4) (a : World.ArgsD gneissfold_release.signature κs) (r : World.ResD gneissfold_release.signature κs)
-      (s : Clauses.AtExit (K.endedOf 4 release-kinds.ps release-kinds.r) κs) → release-lent κs a ≡ L → release-reads.Post κs a r s
+  by-release : (κs : Lfts (gneissfold_release.signature .lifetimes)) (a : World.ArgsD gneissfold_release.signature κs)
+      (r : World.ResD gneissfold_release.signature κs) (s : Clauses.AtExit (K.endedOf _ release-kinds.ps release-kinds.r) κs) → release-lent κs a ≡ L → release-reads.Post κs a r s
       → Meets L (release-call κs a) (saidByHost (hostAnswerOf (release-tells κs a r s))) (release-tells κs a r s .tables)
 
 -- the contracts say what the rules say
@@ -74,3 +74,7 @@ as-run s = seen.as-run right s
 -- speaks of lists of numbers, and what a lent slice can hold is known where it is read, not from the contract.
 pub seen-holds : {L₀ L : Lent} {h : List Event} → freeTables L₀ ≡ true → Seen Meets L₀ h L → all octetsOnly (calls h) ≡ true → SeenHolds Meets h L
 seen-holds f s o = seen.seen-holds right f s o
+
+-- and what is read back is the sheet
+pub seen-reads : {L₀ L : Lent} {h : List Event} → freeTables L₀ ≡ true → Seen Meets L₀ h L → all octetsOnly (calls h) ≡ true → SeenReads Meets L₀ h
+seen-reads f s o = seen.seen-reads right f s o

@@ -20,17 +20,19 @@ pub extern "C" fn gneissfold_message(
     binds: &mut [u8],
     groups: &mut [u8],
     members: &mut [u8],
+    sessions: &mut [u8],
     msg: &[u8],
     reply: &mut [u8],
     list: &mut [u8],
     count: &mut usize,
 ) -> u8
     ensures { λ r. ⌜ messageTold r (now (count .exit))
-        (lent (now (devices .exit)) (now (binds .exit)) (now (groups .exit)) (now (members .exit))) (now (reply .exit)) (now (list .exit))
-        ≡ ofMessage (message (lent (now (devices .entry)) (now (binds .entry)) (now (groups .entry)) (now (members .entry)))
+        (lent (now (devices .exit)) (now (binds .exit)) (now (groups .exit)) (now (members .exit)) (now (sessions .exit)))
+        (now (reply .exit)) (now (list .exit))
+        ≡ ofMessage (message (lent (now (devices .entry)) (now (binds .entry)) (now (groups .entry)) (now (members .entry)) (now (sessions .entry)))
         (now (msg .entry)) (now (reply .entry)) (now (list .entry))) ⌝ }
 {
-    let outcome = hub::message(devices, binds, groups, members, msg, reply, list);
+    let outcome = hub::message(devices, binds, groups, members, sessions, msg, reply, list);
     *count = outcome.value();
     outcome.number()
 }
@@ -42,12 +44,13 @@ pub extern "C" fn gneissfold_admit(
     binds: &[u8],
     groups: &[u8],
     members: &[u8],
+    sessions: &[u8],
     address: u16,
     rights: u8,
     units: &[u8; 32],
 ) -> u8
-    ensures { λ r. ⌜ hostTold r (lent (now (devices .exit)) (now (binds .entry)) (now (groups .entry)) (now (members .entry)))
-        ≡ ofHost (admit (lent (now (devices .entry)) (now (binds .entry)) (now (groups .entry)) (now (members .entry)))
+    ensures { λ r. ⌜ hostTold r (lent (now (devices .exit)) (now (binds .entry)) (now (groups .entry)) (now (members .entry)) (now (sessions .entry)))
+        ≡ ofHost (admit (lent (now (devices .entry)) (now (binds .entry)) (now (groups .entry)) (now (members .entry)) (now (sessions .entry)))
         (device address) rights (now (units .entry))) ⌝ }
 {
     let outcome = hub::admit(
@@ -55,6 +58,7 @@ pub extern "C" fn gneissfold_admit(
         binds,
         groups,
         members,
+        sessions,
         DeviceAddress(address),
         rights,
         units,
@@ -62,19 +66,20 @@ pub extern "C" fn gneissfold_admit(
     outcome.number()
 }
 
-// Releases a device, with its members and the binds that name it.
+// Releases a device, with its members and the binds that name it, and its read session; all sessions where a bind named it.
 #[no_mangle]
 pub extern "C" fn gneissfold_release(
     devices: &mut [u8],
     binds: &mut [u8],
     groups: &[u8],
     members: &mut [u8],
+    sessions: &mut [u8],
     address: u16,
 ) -> u8
-    ensures { λ r. ⌜ hostTold r (lent (now (devices .exit)) (now (binds .exit)) (now (groups .entry)) (now (members .exit)))
-        ≡ ofHost (release (lent (now (devices .entry)) (now (binds .entry)) (now (groups .entry)) (now (members .entry))) (device address)) ⌝ }
+    ensures { λ r. ⌜ hostTold r (lent (now (devices .exit)) (now (binds .exit)) (now (groups .entry)) (now (members .exit)) (now (sessions .exit)))
+        ≡ ofHost (release (lent (now (devices .entry)) (now (binds .entry)) (now (groups .entry)) (now (members .entry)) (now (sessions .entry))) (device address)) ⌝ }
 {
-    let outcome = hub::release(devices, binds, groups, members, DeviceAddress(address));
+    let outcome = hub::release(devices, binds, groups, members, sessions, DeviceAddress(address));
     outcome.number()
 }
 

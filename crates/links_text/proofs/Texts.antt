@@ -1,7 +1,8 @@
 -- The text for an input is the text of the answer to the tables and the message in it.
 use Rattle.words.specs.Basics.{_≡_, sym, ap, _∙_, List, ℕ, _+_, _<_, _≤_, arith, length, take, drop, replicate, length-drop, length-replicate, length-take-le}
 use Rattle.words.specs.Basics.{lt-ltb, le-ltb}
-use Rattle.rules.specs.Types.{Devices, Binds, Groups, Members, Outcome}
+use Rattle.rules.specs.Types.{Devices, Binds, Groups, Members, Sessions, Outcome}
+use Rattle.rules.specs.Tables.{free}
 use Rattle.rules.specs.Octets.{over}
 use Rattle.words.specs.Names.{longest}
 use Rattle.rules.specs.Layout.{full}
@@ -25,7 +26,7 @@ pub answer-text : (s ds bs gs ms q : List ℕ) {o : Outcome} {L : Lent} {r l : L
     → gs ≡ over (take (full Groups) (drop atGroups s)) (replicate (full Groups) 0)
     → ms ≡ over (take (full Members) (drop atMembers s)) (replicate (full Members) 0)
     → q ≡ drop allTables s
-    → answer o L r l ≡ message (lent ds bs gs ms) q (replicate longest 0) (replicate listLength 0)
+    → answer o L r l ≡ message (lent ds bs gs ms (replicate (full Sessions) free)) q (replicate longest 0) (replicate listLength 0)
     → answerText o r l ≡ printed s
 unfolding printed answered given
 answer-text s ds bs gs ms q {o} {L} {r} {l} h d b g m e a =

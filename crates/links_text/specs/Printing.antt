@@ -1,7 +1,9 @@
--- The text of `links` (document 01, Rows to try): the four tables at full size and then the message, answered with a reply and a list of zeros.
+-- The text of `links` (document 01, Rows to try): four tables at full size and then the message, answered with all sessions free, a reply and a list of
+-- zeros.
 use Rattle.words.specs.Basics.{cond, List, ℕ, _+_, _*_, ltb, length, take, drop, replicate}
 use Rattle.words.specs.Names.{longest}
-use Rattle.rules.specs.Types.{Devices, Binds, Groups, Members}
+use Rattle.rules.specs.Types.{Devices, Binds, Groups, Members, Sessions}
+use Rattle.rules.specs.Tables.{free}
 use Rattle.rules.specs.Layout.{most, full}
 use Rattle.rules.specs.Frame.{Lent, lent}
 use Rattle.rules.specs.Calls.{Answer, message}
@@ -28,6 +30,7 @@ listLength = 3 * (most Binds + most Members)
 unfoldable pub given : List ℕ → Lent
 given s =
     lent (take (full Devices) s) (take (full Binds) (drop atBinds s)) (take (full Groups) (drop atGroups s)) (take (full Members) (drop atMembers s))
+    (replicate (full Sessions) free)
 
 -- the answer to the message behind them
 unfoldable pub answered : List ℕ → Answer

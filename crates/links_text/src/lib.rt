@@ -13,6 +13,8 @@ const GROUPS: usize = layouts::MOST_GROUPS * layouts::GROUP;
 
 const MEMBERS: usize = layouts::MOST_MEMBERS * layouts::MEMBER;
 
+const SESSIONS: usize = layouts::MOST_SESSIONS * layouts::SESSION;
+
 // Where each but the first begins in the input, and the message behind them.
 const AT_BINDS: usize = DEVICES;
 
@@ -25,7 +27,7 @@ const AT_MESSAGE: usize = AT_MEMBERS + MEMBERS;
 // The list has room for every bind and every member.
 const LIST: usize = 3 * (layouts::MOST_BINDS + layouts::MOST_MEMBERS);
 
-// The text for a whole input: the tables are copied out of it, since a call may change them.
+// The text for a whole input: the tables are copied out of it, since a call may change them. No device has a read session.
 fn answer(input: &[u8], text: &mut [u8]) -> usize
     requires { ⌜ (allTables ≤ length (now input)) × (2048 ≤ length (now text)) ⌝ }
     ensures { λ r. ⌜ Printed (printed (now (input .entry))) (now (text .entry)) r (now (text .exit)) ⌝ }
@@ -38,6 +40,7 @@ fn answer(input: &[u8], text: &mut [u8]) -> usize
     octets::put(&mut binds, &input[AT_BINDS..AT_GROUPS]);
     octets::put(&mut groups, &input[AT_GROUPS..AT_MEMBERS]);
     octets::put(&mut members, &input[AT_MEMBERS..AT_MESSAGE]);
+    let mut sessions = [records::FREE; SESSIONS];
     let mut reply = [0u8; Fields::LONGEST];
     let mut list = [0u8; LIST];
     let outcome = hub::message(
@@ -45,6 +48,7 @@ fn answer(input: &[u8], text: &mut [u8]) -> usize
         &mut binds,
         &mut groups,
         &mut members,
+        &mut sessions,
         &input[AT_MESSAGE..],
         &mut reply,
         &mut list,

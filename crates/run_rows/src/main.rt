@@ -114,6 +114,7 @@ fn main() {
     let mut binds = [0xFFu8; 512];
     let mut groups = [0xFFu8; 256];
     let mut members = [0xFFu8; 640];
+    let mut sessions = [0xFFu8; 16];
     let mut reply = [0u8; 500];
     let mut list = [0u8; 576];
     let mut step = 0u8;
@@ -125,6 +126,7 @@ fn main() {
             &mut binds,
             &mut groups,
             &mut members,
+            &mut sessions,
             &msg[..n],
             &mut reply,
             &mut list,

@@ -6,12 +6,12 @@ use Rattle.gneissfold.proofs.gneissfold_message.Tie as tie
 
 returns : tie.Need-returns
 returns c =
-    let c8 = c .before .before .before .before .before .before .before .before in
-    message-tells (c8 .before .before .before .before .before .before .message .ensures) (c .number .ensures) (c .before .value .ensures)
+    let m : tie.After-message = search c in
+    message-tells (m .message .ensures) (c .number .ensures) (c .before .value .ensures)
 
 pub gneissfold-message-spec : {M : Type 1} → statement M
 gneissfold-message-spec =
     tie.close
     (tie.spec
     (λ c κs. search needs) (λ c κs. search needs) (λ c κs. search needs) (λ c. search needs) (λ c. search needs) (λ c. search needs)
-    (λ c. search needs) (λ c. search needs) (λ c. search needs) returns)
+    (λ c. search needs) (λ c. search needs) (λ c. search needs) (λ c. search needs) returns)

@@ -9,31 +9,28 @@ use Rattle.links_text.proofs.answer.Tie as tie
 
 write-answer-requires : tie.Need-write-answer-requires
 write-answer-requires c κs =
-    let c8 = c .before .before .before .before .before .before .before .before in
-    let c16 = c8 .before .before .before .before .before .before .before .before in
-    let c24 = c16 .before .before .before .before .before .before .before .before in
-    let c32 = c24 .before .before .before .before .before .before .before .before in
-    let start = c32 .before .before .before in
-    let told = c8 .before .message in
-    let w = within _ _ _ _ (told .ensures) in
+    let m : tie.After-message = search c in
+    let p : tie.After-put3 = search m in
+    let start : tie.Start = search p in
+    let w = within _ _ _ _ (m .message .ensures) in
     record {
       reply = w .reply;
-      longest = omega (arith, w .reply, told .kept .1 .1 .1 .1 .1 .0);
+      longest = omega (arith, w .reply, m .message .kept .1 .1 .1 .1 .1 .1 .0);
       list = w .list;
-      most = omega (arith, w .list, told .kept .1 .1 .1 .1 .1 .1 .0);
+      most = omega (arith, w .list, m .message .kept .1 .1 .1 .1 .1 .1 .1 .0);
       text = start .pre .1;
     }
 
 returns : tie.Need-returns
 returns c =
-    let c8 = c .before .before .before .before .before .before .before .before in
-    let c16 = c8 .before .before .before .before .before .before .before .before in
-    let c24 = c16 .before .before .before .before .before .before .before .before in
-    let c32 = c24 .before .before .before .before .before .before .before .before in
-    let start = c32 .before .before .before .before .before .before in
-    rw (← answer-text (now (start .args .input)) _ _ _ _ _ (start .pre .0) (c32 .before .put .ensures)
-    (c24 .before .before .before .before .before .put2 .ensures) (c24 .before .put3 .ensures) (c16 .before .before .before .before .before .put4 .ensures)
-    (rest-is allTables (now (start .args .input))) (c8 .before .before .before .before .message .ensures)) (c .before .before .write-answer .ensures)
+    let m : tie.After-message = search c in
+    let p4 : tie.After-put4 = search m in
+    let p3 : tie.After-put3 = search p4 in
+    let p2 : tie.After-put2 = search p3 in
+    let p : tie.After-put = search p2 in
+    let start : tie.Start = search p in
+    rw (← answer-text (now (start .args .input)) _ _ _ _ _ (start .pre .0) (p .put .ensures) (p2 .put2 .ensures) (p3 .put3 .ensures) (p4 .put4 .ensures)
+    (rest-is allTables (now (start .args .input))) (m .message .ensures)) (c .before .before .write-answer .ensures)
 
 pub answer-spec : {M : Type 1} → statement M
 answer-spec =
@@ -43,4 +40,4 @@ answer-spec =
     (λ c. search needs) (λ c. search needs) (λ c κs. search needs) (λ c. search needs) (λ c. search needs) (λ c. search needs) (λ c. search needs)
     (λ c κs. search needs) (λ c. search needs) (λ c. search needs) (λ c. search needs) (λ c. search needs) (λ c κs. search needs) (λ c. search needs)
     (λ c. search needs) (λ c. search needs) (λ c. search needs) (λ c. search needs) (λ c. search needs) (λ c. search needs) (λ c. search needs)
-    (λ c. search needs) (λ c κs. search needs) (λ c. search needs) (λ c. search needs) write-answer-requires (λ c. search needs) returns)
+    (λ c. search needs) (λ c. search needs) (λ c κs. search needs) (λ c. search needs) (λ c. search needs) write-answer-requires (λ c. search needs) returns)
