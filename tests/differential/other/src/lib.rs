@@ -5,8 +5,11 @@
 //! requests of those numbers. Octet numbers in the comments count from 1, as in
 //! the paper; indices in the code count from 0.
 
+mod binds;
 mod carry_over;
+mod codes;
 mod commands;
+mod groups;
 mod header;
 mod links;
 mod recipients;

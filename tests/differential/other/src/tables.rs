@@ -87,6 +87,11 @@ pub fn free_where(table: &mut [u8], size: usize, matches: impl Fn(&[u8]) -> bool
     found
 }
 
+/// Whether a used record is the same octets.
+pub fn present(table: &[u8], record: &[u8]) -> bool {
+    used(table, record.len()).any(|there| there == record)
+}
+
 fn device_record(devices: &[u8], address: u16) -> Option<&[u8]> {
     used(devices, DEVICE).find(|device| word(device, 0) == address)
 }
