@@ -1,6 +1,8 @@
-//! Add Bind and the five Remove forms ("Commands and codes").
+//! Add Bind and the five Remove forms ("Commands and codes"), and what closes
+//! the sessions in which binds are read back ("CR 1").
 
 use crate::codes::{ok_if, ok_if_room, INVALID_ARGUMENT};
+use crate::sessions::close_all;
 use crate::tables::{bind_fields_hold, free_where, number, present, store, word, Tables, BIND};
 
 /// By which octets of theirs a command names binds.
@@ -52,10 +54,26 @@ pub fn add(payload: &[u8], tables: Tables) -> u8 {
     if !bind_fields_hold(tables.devices, tables.groups, &bind) || present(tables.binds, &bind) {
         return INVALID_ARGUMENT;
     }
-    ok_if_room(store(tables.binds, &bind))
+    let stored = store(tables.binds, &bind);
+    if stored {
+        close_all(tables.sessions);
+    }
+    ok_if_room(stored)
 }
 
 /// "0x02 if nothing matches, else all matches become free".
-pub fn remove(form: Form, payload: &[u8], binds: &mut [u8]) -> u8 {
-    ok_if(free_where(binds, BIND, |bind| form.names(payload, bind)))
+pub fn remove(form: Form, payload: &[u8], tables: Tables) -> u8 {
+    ok_if(free(tables.binds, tables.sessions, |bind| {
+        form.names(payload, bind)
+    }))
+}
+
+/// Frees every bind that matches; says whether there was one. "any change to the
+/// bind table closes all sessions", and where none matches there is no change.
+pub fn free(binds: &mut [u8], sessions: &mut [u8], matches: impl Fn(&[u8]) -> bool) -> bool {
+    let found = free_where(binds, BIND, matches);
+    if found {
+        close_all(sessions);
+    }
+    found
 }

@@ -5,6 +5,7 @@ use crate::binds::{self, Form};
 use crate::codes::{alone, INVALID_ARGUMENT, NOT_AUTHORIZED};
 use crate::groups;
 use crate::header::Header;
+use crate::sessions::{self, Get};
 use crate::tables::{self, put, Tables, BIND};
 use crate::HEADER;
 
@@ -18,6 +19,9 @@ const COMMAND_RESPONSE: u8 = 0x03;
 pub enum Command {
     AddBind,
     Remove(Form),
+    StartSession,
+    EndSession,
+    Get(Get),
     CreateGroup,
     DeleteGroup,
     AddToGroup,
@@ -26,9 +30,11 @@ pub enum Command {
 }
 
 /// The command, unless it is outcome 18: "not one of the eleven commands as
-/// type 0x01 or 0x02 to a server interface". Member numbers follow the order
-/// of the sections 6.2.5 and 6.3.5 of document 000.
+/// type 0x01 or 0x02 to a server interface", and of the seven by which binds are
+/// read back: "outcome 18 shrinks by these commands" ("CR 1"). Member numbers
+/// follow the order of the sections 6.2.5 and 6.3.5 of document 000.
 pub fn named_by(header: &Header) -> Option<Command> {
+    use sessions::Get::{By, ByIndex};
     use Command::*;
     if !matches!(header.kind, 0x01 | 0x02) || !header.server {
         return None;
@@ -40,6 +46,13 @@ pub fn named_by(header: &Header) -> Option<Command> {
         (BIND_MANAGEMENT, 0x04) => Some(Remove(Form::SourceUnit)),
         (BIND_MANAGEMENT, 0x05) => Some(Remove(Form::Destination)),
         (BIND_MANAGEMENT, 0x06) => Some(Remove(Form::DestinationUnit)),
+        (BIND_MANAGEMENT, 0x07) => Some(StartSession),
+        (BIND_MANAGEMENT, 0x08) => Some(EndSession),
+        (BIND_MANAGEMENT, 0x09) => Some(Get(ByIndex)),
+        (BIND_MANAGEMENT, 0x0A) => Some(Get(By(Form::Source))),
+        (BIND_MANAGEMENT, 0x0B) => Some(Get(By(Form::SourceUnit))),
+        (BIND_MANAGEMENT, 0x0C) => Some(Get(By(Form::Destination))),
+        (BIND_MANAGEMENT, 0x0D) => Some(Get(By(Form::DestinationUnit))),
         (GROUP_MANAGEMENT, 0x01) => Some(CreateGroup),
         (GROUP_MANAGEMENT, 0x02) => Some(DeleteGroup),
         (GROUP_MANAGEMENT, 0x03) => Some(AddToGroup),
@@ -83,9 +96,7 @@ fn answer(
     tables: Tables,
     out: &mut [u8],
 ) -> usize {
-    let may =
-        command == Command::GetGroupInfo || tables::rights(tables.devices, header.source) == 1;
-    if !may {
+    if asks_rights(command) && tables::rights(tables.devices, header.source) != 1 {
         return alone(NOT_AUTHORIZED, out);
     }
     if !length_fits(command, payload) {
@@ -93,7 +104,10 @@ fn answer(
     }
     match command {
         Command::AddBind => alone(binds::add(payload, tables), out),
-        Command::Remove(form) => alone(binds::remove(form, payload, tables.binds), out),
+        Command::Remove(form) => alone(binds::remove(form, payload, tables), out),
+        Command::StartSession => sessions::start(header.source, tables, out),
+        Command::EndSession => alone(sessions::end(header.source, tables.sessions), out),
+        Command::Get(what) => sessions::get(what, header.source, payload, tables, out),
         Command::CreateGroup => groups::create(&payload[1..], tables.groups, out),
         Command::DeleteGroup => alone(groups::delete(payload, tables), out),
         Command::AddToGroup => alone(groups::add_member(payload, tables), out),
@@ -102,11 +116,22 @@ fn answer(
     }
 }
 
+/// "Not applied to Get Group Info." Of the seven by which binds are read back,
+/// the section of Start Session alone lists 0x01.
+fn asks_rights(command: Command) -> bool {
+    !matches!(
+        command,
+        Command::GetGroupInfo | Command::EndSession | Command::Get(_)
+    )
+}
+
 fn length_fits(command: Command, payload: &[u8]) -> bool {
     use Command::*;
     match command {
         AddBind => payload.len() == BIND,
         Remove(form) => payload.len() == form.length(),
+        StartSession | EndSession => payload.is_empty(),
+        Get(what) => payload.len() == what.length(),
         DeleteGroup | GetGroupInfo => payload.len() == 2,
         AddToGroup | RemoveFromGroup => payload.len() == 5,
         CreateGroup => match payload.first() {

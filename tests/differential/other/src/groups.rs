@@ -1,10 +1,11 @@
 //! The five group commands ("Commands and codes").
 
+use crate::binds;
 use crate::codes::{alone, ok_if, ok_if_room, INVALID_ARGUMENT, NOT_ENOUGH_RESOURCES, OK};
 use crate::recipients::Units;
 use crate::tables::{
     free_where, group_exists, group_record, member_holds, number, present, put, store, word,
-    Tables, BIND, GROUP, LONGEST_NAME, MEMBER, NAME,
+    Tables, GROUP, LONGEST_NAME, MEMBER, NAME,
 };
 
 /// The member named, the top bits of group and device ignored.
@@ -50,7 +51,9 @@ pub fn delete(payload: &[u8], tables: Tables) -> u8 {
     }
     free_where(tables.members, MEMBER, |member| word(member, 0) == group);
     // Of group type only: D' with the same number is a different thing.
-    free_where(tables.binds, BIND, |bind| word(bind, 5) == 0x8000 | group);
+    binds::free(tables.binds, tables.sessions, |bind| {
+        word(bind, 5) == 0x8000 | group
+    });
     OK
 }
 

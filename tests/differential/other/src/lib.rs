@@ -1,9 +1,9 @@
 //! A second, independent reading of the requirements paper, for tests only.
 //!
 //! It is written straight from the paper and favours obviousness. Section
-//! names in the comments are the paper's; "CR 2" and "CR 4" are the change
-//! requests of those numbers. Octet numbers in the comments count from 1, as in
-//! the paper; indices in the code count from 0.
+//! names in the comments are the paper's; "CR 1", "CR 2" and "CR 4" are the
+//! change requests of those numbers. Octet numbers in the comments count from 1,
+//! as in the paper; indices in the code count from 0.
 
 mod binds;
 mod carry_over;
@@ -13,6 +13,7 @@ mod groups;
 mod header;
 mod links;
 mod recipients;
+mod sessions;
 mod tables;
 mod unit_set;
 
@@ -64,6 +65,7 @@ pub fn message(
     binds: &mut [u8],
     groups: &mut [u8],
     members: &mut [u8],
+    sessions: &mut [u8],
     msg: &[u8],
     reply: &mut [u8],
     list: &mut [u8],
@@ -74,7 +76,7 @@ pub fn message(
     if reply.len() < LONGEST || list.len() < least_list(binds, members) {
         return outcome::ROOM;
     }
-    if !tables::sound(devices, binds, groups, members) {
+    if !tables::sound(devices, binds, groups, members, sessions) {
         return outcome::NOT_SOUND;
     }
     let header = match Header::of(msg) {
@@ -93,6 +95,7 @@ pub fn message(
             binds,
             groups,
             members,
+            sessions,
         };
         return match commands::named_by(&header) {
             None => outcome::NO_COMMAND,
@@ -131,16 +134,18 @@ fn destination_exists(devices: &[u8], groups: &[u8], header: &Header) -> bool {
 }
 
 /// Admits a device ("Outcomes": 16, 20, 21, 22, else 0).
+#[allow(clippy::too_many_arguments)]
 pub fn admit(
     devices: &mut [u8],
     binds: &[u8],
     groups: &[u8],
     members: &[u8],
+    sessions: &[u8],
     address: u16,
     rights: u8,
     units: &UnitSet,
 ) -> u8 {
-    if !tables::sound(devices, binds, groups, members) {
+    if !tables::sound(devices, binds, groups, members, sessions) {
         return outcome::NOT_SOUND;
     }
     if !address_in_range(address) || rights > 1 || !unit_set::in_range(units) {
@@ -162,9 +167,10 @@ pub fn release(
     binds: &mut [u8],
     groups: &[u8],
     members: &mut [u8],
+    sessions: &mut [u8],
     address: u16,
 ) -> u8 {
-    if !tables::sound(devices, binds, groups, members) {
+    if !tables::sound(devices, binds, groups, members, sessions) {
         return outcome::NOT_SOUND;
     }
     if !free_where(devices, tables::DEVICE, |device| word(device, 0) == address) {
@@ -176,8 +182,10 @@ pub fn release(
     // they are of individual type: G' with the same number stays. It is at most
     // 0x7FFE, so no bind of any device ("CR 4") names it by its source.
     free_where(members, tables::MEMBER, |member| word(member, 2) == address);
-    free_where(binds, tables::BIND, |bind| {
+    binds::free(binds, sessions, |bind| {
         word(bind, 0) == address || word(bind, 5) == address
     });
+    // "a release closes that device's", whether a bind names it or not ("CR 1").
+    sessions::close(sessions, address);
     outcome::DONE
 }

@@ -1,5 +1,6 @@
 //! The program `links` ("Rows to try"), as a function of its input.
 
+use crate::sessions::{MOST_SESSIONS, SESSION};
 use crate::tables::{
     BIND, DEVICE, GROUP, MEMBER, MOST_BINDS, MOST_DEVICES, MOST_GROUPS, MOST_MEMBERS,
 };
@@ -23,11 +24,21 @@ pub fn links(input: &[u8]) -> String {
     let (devices, rest) = tables.split_at_mut(DEVICES);
     let (binds, rest) = rest.split_at_mut(BINDS);
     let (groups, members) = rest.split_at_mut(GROUPS);
+    // They are no part of the input: nobody has a session.
+    let mut sessions = [0xFF; SESSION * MOST_SESSIONS];
     let mut reply = [0; LONGEST];
     let mut list = [0; 3 * (MOST_BINDS + MOST_MEMBERS)];
     let mut count = 0;
     let result = message(
-        devices, binds, groups, members, msg, &mut reply, &mut list, &mut count,
+        devices,
+        binds,
+        groups,
+        members,
+        &mut sessions,
+        msg,
+        &mut reply,
+        &mut list,
+        &mut count,
     );
     match result {
         outcome::DONE => format!("outcome 0 count 0\n{}\n", hexadecimal(&reply[..count])),

@@ -1,6 +1,7 @@
 //! The four tables ("Tables"), devices as "CR 2" lays them out, and binds with
-//! the special values of "CR 4".
+//! the special values of "CR 4"; beside them the sessions of "CR 1".
 
+use crate::sessions;
 use crate::unit_set::{self, UnitSet, UNIT_SET};
 use crate::{HIGHEST_ADDRESS, NO_UNIT};
 
@@ -29,12 +30,13 @@ pub const ANY_UNIT: u8 = 0xFF;
 /// UID of a bind that says any interface ("CR 4"), of its interface type alone.
 pub const ANY_INTERFACE: u16 = 0x7FFF;
 
-/// The four tables, lent together.
+/// The tables, lent together.
 pub struct Tables<'a> {
     pub devices: &'a mut [u8],
     pub binds: &'a mut [u8],
     pub groups: &'a mut [u8],
     pub members: &'a mut [u8],
+    pub sessions: &'a mut [u8],
 }
 
 /// "Numbers are most significant octet first" ("The message").
@@ -126,7 +128,7 @@ pub fn unit_exists(devices: &[u8], device: u16, unit: u8) -> bool {
 }
 
 /// Admitted, or D'0000.
-fn device_exists(devices: &[u8], device: u16) -> bool {
+pub fn device_exists(devices: &[u8], device: u16) -> bool {
     device == 0 || admitted(devices, device)
 }
 
@@ -146,8 +148,8 @@ pub fn group_exists(groups: &[u8], group: u16) -> bool {
     group_record(groups, group).is_some()
 }
 
-/// "Tables are sound if".
-pub fn sound(devices: &[u8], binds: &[u8], groups: &[u8], members: &[u8]) -> bool {
+/// "Tables are sound if"; "16 also for an unsound session table" ("CR 1").
+pub fn sound(devices: &[u8], binds: &[u8], groups: &[u8], members: &[u8], sessions: &[u8]) -> bool {
     fits(devices, DEVICE, MOST_DEVICES)
         && fits(binds, BIND, MOST_BINDS)
         && fits(groups, GROUP, MOST_GROUPS)
@@ -160,6 +162,7 @@ pub fn sound(devices: &[u8], binds: &[u8], groups: &[u8], members: &[u8]) -> boo
         && used(binds, BIND).all(|bind| bind_holds(devices, groups, bind))
         && no_two_equal(members, MEMBER, MEMBER)
         && no_two_equal(binds, BIND, BIND)
+        && sessions::sound(devices, sessions)
 }
 
 pub fn fits(table: &[u8], size: usize, most: usize) -> bool {

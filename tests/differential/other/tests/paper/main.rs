@@ -5,5 +5,6 @@ mod commands;
 mod outcomes;
 mod rows;
 mod scene_switch;
+mod sessions;
 mod units;
 mod world;

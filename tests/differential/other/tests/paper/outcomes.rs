@@ -13,6 +13,7 @@ fn the_order_of_outcomes() {
         binds,
         groups,
         members,
+        sessions,
     } = &mut world;
     let mut call = |reply: usize, list: usize| {
         let (mut reply, mut list, mut count) = (vec![0; reply], vec![0; list], 1);
@@ -21,6 +22,7 @@ fn the_order_of_outcomes() {
             binds,
             groups,
             members,
+            sessions,
             &[],
             &mut reply,
             &mut list,

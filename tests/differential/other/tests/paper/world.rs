@@ -31,6 +31,7 @@ pub struct World {
     pub binds: Vec<u8>,
     pub groups: Vec<u8>,
     pub members: Vec<u8>,
+    pub sessions: Vec<u8>,
 }
 
 /// One answer: outcome, then the octets that the count speaks of.
@@ -44,6 +45,7 @@ impl World {
             binds: vec![0xFF; 512],
             groups: vec![0xFF; 256],
             members: vec![0xFF; 640],
+            sessions: vec![0xFF; 16],
         }
     }
 
@@ -70,6 +72,7 @@ impl World {
             &mut self.binds,
             &mut self.groups,
             &mut self.members,
+            &mut self.sessions,
             msg,
             &mut reply,
             &mut list,
@@ -99,10 +102,10 @@ impl World {
         let Answer(outcome, reply) = self.send(&to_concentrator(from, uid, member, payload));
         assert_eq!(outcome, 0);
         let [high, low] = from.0.to_be_bytes();
-        let length = (reply.len() - 15) as u8;
+        let length = (reply.len() - 15) as u16;
         let head = [0, 0, 0, high, low, from.1, 0, 0, 7, 3, 0x80, uid, member];
         assert_eq!(reply[..13], head);
-        assert_eq!(reply[14], length);
+        assert_eq!(reply[13..15], length.to_be_bytes());
         reply[15..].to_vec()
     }
 
@@ -117,8 +120,11 @@ impl World {
             binds,
             groups,
             members,
+            sessions,
         } = self;
-        let outcome = admit(devices, binds, groups, members, address, rights, &units);
+        let outcome = admit(
+            devices, binds, groups, members, sessions, address, rights, &units,
+        );
         if outcome != 0 {
             assert_eq!(*self, before);
         }
@@ -131,8 +137,9 @@ impl World {
             binds,
             groups,
             members,
+            sessions,
         } = self;
-        release(devices, binds, groups, members, address)
+        release(devices, binds, groups, members, sessions, address)
     }
 }
 
