@@ -11,6 +11,7 @@ static uint8_t devices[GNEISSFOLD_DEVICES_LENGTH];
 static uint8_t binds[GNEISSFOLD_BINDS_LENGTH];
 static uint8_t groups[GNEISSFOLD_GROUPS_LENGTH];
 static uint8_t members[GNEISSFOLD_MEMBERS_LENGTH];
+static uint8_t sessions[GNEISSFOLD_SESSIONS_LENGTH];
 
 static uint8_t reply[GNEISSFOLD_LONGEST];
 static uint8_t list[GNEISSFOLD_LIST_LENGTH];
@@ -21,13 +22,13 @@ static const uint8_t units[GNEISSFOLD_UNITS_LENGTH] = {0x03};
 static uint8_t admit(uint16_t address, uint8_t rights)
 {
     return gneissfold_admit(devices, sizeof devices, binds, sizeof binds, groups, sizeof groups, members, sizeof members,
-                            address, rights, units);
+                            sessions, sizeof sessions, address, rights, units);
 }
 
 static uint8_t handle(const uint8_t *message, size_t length, size_t *count)
 {
     return gneissfold_message(devices, sizeof devices, binds, sizeof binds, groups, sizeof groups, members, sizeof members,
-                              message, length, reply, sizeof reply, list, sizeof list, count);
+                              sessions, sizeof sessions, message, length, reply, sizeof reply, list, sizeof list, count);
 }
 
 int main(void)
@@ -48,6 +49,7 @@ int main(void)
     memset(binds, GNEISSFOLD_FREE, sizeof binds);
     memset(groups, GNEISSFOLD_FREE, sizeof groups);
     memset(members, GNEISSFOLD_FREE, sizeof members);
+    memset(sessions, GNEISSFOLD_FREE, sizeof sessions);
 
     printf("admit the switch: outcome %d\n", admit(SWITCH, 1));
     printf("admit the motor: outcome %d\n", admit(MOTOR, 0));
@@ -68,7 +70,8 @@ int main(void)
                (unsigned)fields[GNEISSFOLD_DESTINATION_UNIT]);
     }
 
-    outcome = gneissfold_release(devices, sizeof devices, binds, sizeof binds, groups, sizeof groups, members, sizeof members, MOTOR);
+    outcome = gneissfold_release(devices, sizeof devices, binds, sizeof binds, groups, sizeof groups, members, sizeof members,
+                                 sessions, sizeof sessions, MOTOR);
     printf("release the motor: outcome %d\n", outcome);
     outcome = handle(command, sizeof command, &count);
     printf("the switch is pressed: outcome %d, recipients %zu\n", outcome, count);

@@ -11,6 +11,7 @@ static uint8_t devices[GNEISSFOLD_DEVICES_LENGTH];
 static uint8_t binds[GNEISSFOLD_BINDS_LENGTH];
 static uint8_t groups[GNEISSFOLD_GROUPS_LENGTH];
 static uint8_t members[GNEISSFOLD_MEMBERS_LENGTH];
+static uint8_t sessions[GNEISSFOLD_SESSIONS_LENGTH];
 static uint8_t reply[GNEISSFOLD_LONGEST];
 static uint8_t list[GNEISSFOLD_LIST_LENGTH];
 
@@ -21,7 +22,7 @@ static uint16_t motor_of(int room) { return (uint16_t)(0x0200 + room); }
 static uint8_t handle(const uint8_t *message, size_t length, size_t *count)
 {
     return gneissfold_message(devices, sizeof devices, binds, sizeof binds, groups, sizeof groups, members, sizeof members,
-                              message, length, reply, sizeof reply, list, sizeof list, count);
+                              sessions, sizeof sessions, message, length, reply, sizeof reply, list, sizeof list, count);
 }
 
 /* Admits a device with unit 0 and one more. */
@@ -31,7 +32,7 @@ static void admit(const char *what, uint16_t address, uint8_t rights, uint8_t un
     units[unit / 8] |= 1 << unit % 8;
     printf("admit %s %04X: outcome %d\n", what, address,
            gneissfold_admit(devices, sizeof devices, binds, sizeof binds, groups, sizeof groups, members, sizeof members,
-                            address, rights, units));
+                            sessions, sizeof sessions, address, rights, units));
 }
 
 /* A command to D'0:U'0 from unit 0 of the switch of room 1, which has rights: UID (server), member, payload. */
@@ -72,6 +73,7 @@ int main(void)
     memset(binds, GNEISSFOLD_FREE, sizeof binds);
     memset(groups, GNEISSFOLD_FREE, sizeof groups);
     memset(members, GNEISSFOLD_FREE, sizeof members);
+    memset(sessions, GNEISSFOLD_FREE, sizeof sessions);
 
     for (int room = 1; room <= ROOMS; room++) {
         admit("the switch", switch_of(room), room == 1, SCENE_KEY);
@@ -92,7 +94,8 @@ int main(void)
     press(switch_of(4), SCENE_KEY);
 
     printf("release the switch %04X: outcome %d\n", switch_of(2),
-           gneissfold_release(devices, sizeof devices, binds, sizeof binds, groups, sizeof groups, members, sizeof members, switch_of(2)));
+           gneissfold_release(devices, sizeof devices, binds, sizeof binds, groups, sizeof groups, members, sizeof members,
+                              sessions, sizeof sessions, switch_of(2)));
     press(switch_of(3), SCENE_KEY);
     command("remove the bind of any device", 0x02, 0x03, scene, 2);
     press(switch_of(3), SCENE_KEY);

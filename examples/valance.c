@@ -12,6 +12,7 @@ static uint8_t old_devices[GNEISSFOLD_OLD_DEVICES_LENGTH];
 static uint8_t binds[GNEISSFOLD_BINDS_LENGTH];
 static uint8_t groups[GNEISSFOLD_GROUPS_LENGTH];
 static uint8_t members[GNEISSFOLD_MEMBERS_LENGTH];
+static uint8_t sessions[GNEISSFOLD_SESSIONS_LENGTH];
 
 /* The new table, nine times as long. The carry-over writes every octet of it. */
 static uint8_t devices[GNEISSFOLD_DEVICES_LENGTH];
@@ -27,13 +28,13 @@ static void put(uint8_t *units, uint8_t unit)
 static uint8_t admit(const uint8_t *units)
 {
     return gneissfold_admit(devices, sizeof devices, binds, sizeof binds, groups, sizeof groups, members, sizeof members,
-                            VALANCE, 0, units);
+                            sessions, sizeof sessions, VALANCE, 0, units);
 }
 
 static uint8_t handle(const uint8_t *message, size_t length, size_t *count)
 {
     return gneissfold_message(devices, sizeof devices, binds, sizeof binds, groups, sizeof groups, members, sizeof members,
-                              message, length, reply, sizeof reply, list, sizeof list, count);
+                              sessions, sizeof sessions, message, length, reply, sizeof reply, list, sizeof list, count);
 }
 
 /* From 3:01 to D'0:U'0, Bind Management (server, UID 0x0002), Add Bind: 3:01, server, UID 0x0200, to this unit of the valance. */
@@ -63,6 +64,7 @@ int main(void)
     memset(binds, GNEISSFOLD_FREE, sizeof binds);
     memset(groups, GNEISSFOLD_FREE, sizeof groups);
     memset(members, GNEISSFOLD_FREE, sizeof members);
+    memset(sessions, GNEISSFOLD_FREE, sizeof sessions);
 
     outcome = gneissfold_carry_over(old_devices, sizeof old_devices, devices, sizeof devices);
     printf("carry the devices over: outcome %d\n", outcome);

@@ -39,7 +39,7 @@ enum gneissfold_outcome {
     GNEISSFOLD_RESPONSE_TO_MANY = 15,   /* response type to a group or to the bind address */
     GNEISSFOLD_UNSOUND = 16,            /* tables not sound; carry_over: old table not sound */
     GNEISSFOLD_NO_ROOM = 17,            /* reply or list too short; carry_over: new table not nine times as long as the old one */
-    GNEISSFOLD_NOT_SERVED = 18,         /* to D'0:U'0, and not one of the eleven commands */
+    GNEISSFOLD_NOT_SERVED = 18,         /* to D'0:U'0, and not one of the eighteen commands */
     GNEISSFOLD_NO_COPY = 19,            /* copy: room too short, device above 0x7FFE or unit 0xFF */
     GNEISSFOLD_OUT_OF_RANGE = 20,       /* admit: address or rights out of range, unit 0 not set or unit 255 set */
     GNEISSFOLD_ALREADY_ADMITTED = 21,   /* admit: already admitted */
@@ -52,7 +52,9 @@ enum gneissfold_code {
     GNEISSFOLD_CODE_OK = 0x00,
     GNEISSFOLD_CODE_NOT_AUTHORIZED = 0x01,
     GNEISSFOLD_CODE_INVALID_ARGUMENT = 0x02,
-    GNEISSFOLD_CODE_NOT_ENOUGH_RESOURCES = 0xFE
+    GNEISSFOLD_CODE_NO_SESSION = 0x20,            /* a read without a session */
+    GNEISSFOLD_CODE_NOT_ENOUGH_RESOURCES = 0xFE,
+    GNEISSFOLD_CODE_UNKNOWN_REASON = 0xFF         /* an end without a session */
 };
 
 /* Tables: records of one size, no header. A free record is all GNEISSFOLD_FREE, so an empty table is filled with it. */
@@ -62,17 +64,20 @@ enum gneissfold_code {
 #define GNEISSFOLD_BIND_SIZE 8     /* source 3, interface type and UID 2, destination type and address 2, destination unit 1 */
 #define GNEISSFOLD_GROUP_SIZE 16   /* address 2, name length 1 (0 to 13), name 13 padded with 0x00 */
 #define GNEISSFOLD_MEMBER_SIZE 5   /* group 2, device 2, unit 1 */
+#define GNEISSFOLD_SESSION_SIZE 2  /* the device that reads binds back */
 
 #define GNEISSFOLD_MOST_DEVICES 64
 #define GNEISSFOLD_MOST_BINDS 64
 #define GNEISSFOLD_MOST_GROUPS 16
 #define GNEISSFOLD_MOST_MEMBERS 128
+#define GNEISSFOLD_MOST_SESSIONS 8
 
 /* The tables at full size. Shorter ones do too: any number of whole records up to these. */
 #define GNEISSFOLD_DEVICES_LENGTH (GNEISSFOLD_DEVICE_SIZE * GNEISSFOLD_MOST_DEVICES)
 #define GNEISSFOLD_BINDS_LENGTH (GNEISSFOLD_BIND_SIZE * GNEISSFOLD_MOST_BINDS)
 #define GNEISSFOLD_GROUPS_LENGTH (GNEISSFOLD_GROUP_SIZE * GNEISSFOLD_MOST_GROUPS)
 #define GNEISSFOLD_MEMBERS_LENGTH (GNEISSFOLD_MEMBER_SIZE * GNEISSFOLD_MOST_MEMBERS)
+#define GNEISSFOLD_SESSIONS_LENGTH (GNEISSFOLD_SESSION_SIZE * GNEISSFOLD_MOST_SESSIONS)
 
 /*
  * A set of units: one bit per unit, the lowest bit of the first octet for unit 0. `units[u / 8] |= 1 << u % 8` puts unit u into it,
@@ -110,6 +115,13 @@ enum gneissfold_code {
 #define GNEISSFOLD_ANY_UNIT 0xFF           /* as source unit */
 #define GNEISSFOLD_ANY_INTERFACE 0x7FFF    /* as UID, behind the interface type */
 
+/*
+ * Reading binds back. A device with rights starts a session (Bind Management, member 0x07), reads by index, by source or by destination, with
+ * its unit or without (0x09 to 0x0D), and ends the session (0x08). A reply holds as many entries as fit. Any change to the binds closes all
+ * sessions, and a release that device's: the sessions table says who has one.
+ */
+#define GNEISSFOLD_MOST_ENTRIES 60
+
 /* The places of the fields that gneissfold_read writes. */
 enum gneissfold_field {
     GNEISSFOLD_SOURCE,
@@ -130,7 +142,7 @@ enum gneissfold_field {
 /*
  * Handles a message: serves a command to D'0:U'0, or finds the recipients of any other message.
  *
- * Lent until the call returns: the four tables, `message` to be read, `reply` (at least GNEISSFOLD_LONGEST octets), `list` (at least
+ * Lent until the call returns: the five tables, `message` to be read, `reply` (at least GNEISSFOLD_LONGEST octets), `list` (at least
  * 3 * max(1, bind records + member records) octets, free records counted) and `count`.
  *
  *   0   the reply is written, *count is its length, and the tables are as the command leaves them. Its code is reply[15].
@@ -145,6 +157,7 @@ uint8_t gneissfold_message(
     uint8_t *binds, size_t binds_length,
     uint8_t *groups, size_t groups_length,
     uint8_t *members, size_t members_length,
+    uint8_t *sessions, size_t sessions_length,
     const uint8_t *message, size_t message_length,
     uint8_t *reply, size_t reply_length,
     uint8_t *list, size_t list_length,
@@ -153,7 +166,7 @@ uint8_t gneissfold_message(
 /*
  * Admits a device, with its rights (1: its bind and group commands are served, 0: refused with code 0x01) and its units.
  *
- * Lent until the call returns: the devices, to be changed, and the other three tables and `units`, to be read. `units` is a set of units,
+ * Lent until the call returns: the devices, to be changed, and the other four tables and `units`, to be read. `units` is a set of units,
  * always GNEISSFOLD_UNITS_LENGTH octets. It was the number of the highest unit before, h: callers are compiled anew (a 0 written out there
  * still compiles, as NULL), and `for (unsigned u = 0; u <= h; u++) units[u / 8] |= 1 << u % 8;` makes the set of units 0 to h.
  *
@@ -165,13 +178,14 @@ uint8_t gneissfold_admit(
     const uint8_t *binds, size_t binds_length,
     const uint8_t *groups, size_t groups_length,
     const uint8_t *members, size_t members_length,
+    const uint8_t *sessions, size_t sessions_length,
     uint16_t address, uint8_t rights, const uint8_t *units);
 
 /*
  * Releases a device, with its members and all binds that name it as source or individual destination. Any device names none: a bind of
- * any device goes only where it leads to this one.
+ * any device goes only where it leads to this one. Its session ends, and where a bind goes, every session.
  *
- * Lent until the call returns: devices, binds and members, to be changed, and the groups, to be read.
+ * Lent until the call returns: devices, binds, members and sessions, to be changed, and the groups, to be read.
  *
  *   0   all these records are free
  *   16, 23, in this order: refused; nothing is written
@@ -181,6 +195,7 @@ uint8_t gneissfold_release(
     uint8_t *binds, size_t binds_length,
     const uint8_t *groups, size_t groups_length,
     uint8_t *members, size_t members_length,
+    uint8_t *sessions, size_t sessions_length,
     uint16_t address);
 
 /*
@@ -189,7 +204,7 @@ uint8_t gneissfold_release(
  *
  * A site with an old table is carried over once, in this order:
  *   1. stop: nothing is called on its tables any more;
- *   2. carry over, into a new table of nine times the length; binds, groups and members stay as they are;
+ *   2. carry over, into a new table of nine times the length; binds, groups and members stay as they are, and sessions begin free;
  *   3. start: all calls are lent the new table, and none the old one.
  * A refusal writes nothing, and the old table is only read: until step 3 the site can go on as it was.
  * An old table of full length, lent to another call by mistake, is refused there: its 256 octets are no whole number of records (16).
