@@ -10,11 +10,13 @@ use crate::units::Units;
 /// The number is the reply's length at [`Outcome::Done`], the number of recipients in `list` (see [`recipients`]) at
 /// [`Outcome::Forwarded`], and else 0. `reply` needs [`LONGEST`](crate::LONGEST) octets, and `list` 3 × max(1, bind records + member records),
 /// free ones counted; where they are shorter the outcome is [`Outcome::NoRoom`]. At any outcome but the first two nothing is written.
+#[allow(clippy::too_many_arguments)]
 pub fn message(
     devices: &mut [u8],
     binds: &mut [u8],
     groups: &mut [u8],
     members: &mut [u8],
+    sessions: &mut [u8],
     message: &[u8],
     reply: &mut [u8],
     list: &mut [u8],
@@ -31,6 +33,8 @@ pub fn message(
             groups.len(),
             members.as_mut_ptr(),
             members.len(),
+            sessions.as_mut_ptr(),
+            sessions.len(),
             message.as_ptr(),
             message.len(),
             reply.as_mut_ptr(),
@@ -52,11 +56,13 @@ pub fn recipients(list: &[u8], count: usize) -> impl Iterator<Item = (u16, u8)> 
 
 /// Admits a device with its rights (0 or 1) and its units; [`Units::up_to`] is the set of all up to a highest one. Only [`Outcome::Done`] changes the
 /// devices.
+#[allow(clippy::too_many_arguments)]
 pub fn admit(
     devices: &mut [u8],
     binds: &[u8],
     groups: &[u8],
     members: &[u8],
+    sessions: &[u8],
     address: u16,
     rights: u8,
     units: Units,
@@ -72,6 +78,8 @@ pub fn admit(
             groups.len(),
             members.as_ptr(),
             members.len(),
+            sessions.as_ptr(),
+            sessions.len(),
             address,
             rights,
             units.octets().as_ptr(),
@@ -79,12 +87,14 @@ pub fn admit(
     })
 }
 
-/// Releases a device, with its members and all binds that name it as source or individual destination.
+/// Releases a device, with its members and all binds that name it as source or individual destination. Its session ends, and where a bind goes,
+/// every session.
 pub fn release(
     devices: &mut [u8],
     binds: &mut [u8],
     groups: &[u8],
     members: &mut [u8],
+    sessions: &mut [u8],
     address: u16,
 ) -> Outcome {
     // SAFETY: as in `message`.
@@ -98,6 +108,8 @@ pub fn release(
             groups.len(),
             members.as_mut_ptr(),
             members.len(),
+            sessions.as_mut_ptr(),
+            sessions.len(),
             address,
         )
     })
@@ -107,7 +119,8 @@ pub fn release(
 /// address, its rights and units 0 to its highest, and a free one stays free. What `devices` held before plays no part.
 ///
 /// A site is carried over once: stop all calls on its tables, carry over, and start again with the new devices; binds, groups and members
-/// stay as they are. [`Outcome::Unsound`], then [`Outcome::NoRoom`], say why not; nothing is written then, and the site can go on as it was.
+/// stay as they are, and sessions begin free. [`Outcome::Unsound`], then [`Outcome::NoRoom`], say why not; nothing is written then, and the
+/// site can go on as it was.
 pub fn carry_over(old: &[u8], devices: &mut [u8]) -> Outcome {
     // SAFETY: as in `message`.
     told(unsafe {

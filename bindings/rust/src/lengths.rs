@@ -16,6 +16,10 @@ pub const BINDS_LENGTH: usize = 8 * 64;
 pub const GROUPS_LENGTH: usize = 16 * 16;
 /// The members at full size: 128 records of 5 octets.
 pub const MEMBERS_LENGTH: usize = 5 * 128;
+/// The sessions at full size: 8 records of 2 octets, each the device that reads binds back.
+pub const SESSIONS_LENGTH: usize = 2 * 8;
+/// Most entries that a read gives at once: as many as a reply holds.
+pub const MOST_ENTRIES: usize = 60;
 /// A recipient in the list: device 2, unit 1.
 pub const RECIPIENT_SIZE: usize = 3;
 /// The recipient list that serves tables at full size.

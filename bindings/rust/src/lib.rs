@@ -1,6 +1,6 @@
 //! The bind and group part of a HAN-FUN concentrator: safe calls of the proved library `libgneissfold.a`.
 //!
-//! The library has no state. The caller keeps the four tables, and lends them to each call; [`Tables`] keeps them at full size. A site whose
+//! The library has no state. The caller keeps the five tables, and lends them to each call; [`Tables`] keeps them at full size. A site whose
 //! device records have 4 octets begins with [`carry_over`] or [`Tables::carried_over`].
 //! Every call answers on any octets and any lengths, and its whole answer is proved (`crates/gneissfold` of the repository).
 //! What C leaves to the caller, that no pointer is null and that nothing lent to be written overlaps, Rust's references say.
@@ -20,7 +20,8 @@ pub use calls::{admit, carry_over, copy, message, recipients, release};
 pub use fields::{read, Fields};
 pub use lengths::{
     BINDS_LENGTH, DEVICES_LENGTH, GROUPS_LENGTH, HEADER_LENGTH, LIST_LENGTH, LONGEST,
-    MEMBERS_LENGTH, OLD_DEVICES_LENGTH, RECIPIENT_SIZE, UNITS_LENGTH,
+    MEMBERS_LENGTH, MOST_ENTRIES, OLD_DEVICES_LENGTH, RECIPIENT_SIZE, SESSIONS_LENGTH,
+    UNITS_LENGTH,
 };
 pub use outcome::Outcome;
 pub use tables::{Tables, FREE};

@@ -27,7 +27,7 @@ pub enum Outcome {
     Unsound = 16,
     /// Reply or list too short; carry-over: new table not nine times as long as the old one.
     NoRoom = 17,
-    /// To D'0:U'0, and not one of the eleven commands.
+    /// To D'0:U'0, and not one of the eighteen commands.
     NotServed = 18,
     /// Copy: room too short, device above 0x7FFE or unit 0xFF.
     NoCopy = 19,

@@ -10,6 +10,8 @@ extern "C" {
         groups_length: usize,
         members: *mut u8,
         members_length: usize,
+        sessions: *mut u8,
+        sessions_length: usize,
         message: *const u8,
         message_length: usize,
         reply: *mut u8,
@@ -27,6 +29,8 @@ extern "C" {
         groups_length: usize,
         members: *const u8,
         members_length: usize,
+        sessions: *const u8,
+        sessions_length: usize,
         address: u16,
         rights: u8,
         units: *const u8,
@@ -40,6 +44,8 @@ extern "C" {
         groups_length: usize,
         members: *mut u8,
         members_length: usize,
+        sessions: *mut u8,
+        sessions_length: usize,
         address: u16,
     ) -> u8;
     pub fn gneissfold_carry_over(

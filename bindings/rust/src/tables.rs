@@ -1,8 +1,9 @@
-//! The four tables, kept at full size, and the calls on them.
+//! The five tables, kept at full size, and the calls on them.
 
 use crate::calls;
 use crate::lengths::{
     BINDS_LENGTH, DEVICES_LENGTH, GROUPS_LENGTH, MEMBERS_LENGTH, OLD_DEVICES_LENGTH,
+    SESSIONS_LENGTH,
 };
 use crate::outcome::Outcome;
 use crate::units::Units;
@@ -10,13 +11,15 @@ use crate::units::Units;
 /// The octet that a free record is made of.
 pub const FREE: u8 = 0xFF;
 
-/// The four tables at full size.
+/// The five tables at full size.
 #[derive(Clone, Debug, PartialEq, Eq)]
 pub struct Tables {
     pub devices: [u8; DEVICES_LENGTH],
     pub binds: [u8; BINDS_LENGTH],
     pub groups: [u8; GROUPS_LENGTH],
     pub members: [u8; MEMBERS_LENGTH],
+    /// Who reads binds back.
+    pub sessions: [u8; SESSIONS_LENGTH],
 }
 
 impl Tables {
@@ -27,10 +30,11 @@ impl Tables {
             binds: [FREE; BINDS_LENGTH],
             groups: [FREE; GROUPS_LENGTH],
             members: [FREE; MEMBERS_LENGTH],
+            sessions: [FREE; SESSIONS_LENGTH],
         }
     }
 
-    /// The tables of a site whose devices are of the old form: these [carried over](crate::carry_over), and the other three as they are.
+    /// The tables of a site whose devices are of the old form: these [carried over](crate::carry_over), the other three as they are, and no session.
     ///
     /// The old devices alone are looked at, and [`Outcome::Unsound`] is of them. Whether the tables fit each other every later call asks.
     pub fn carried_over(
@@ -46,6 +50,7 @@ impl Tables {
                 binds,
                 groups,
                 members,
+                sessions: [FREE; SESSIONS_LENGTH],
             }),
             outcome => Err(outcome),
         }
@@ -63,6 +68,7 @@ impl Tables {
             &mut self.binds,
             &mut self.groups,
             &mut self.members,
+            &mut self.sessions,
             message,
             reply,
             list,
@@ -76,6 +82,7 @@ impl Tables {
             &self.binds,
             &self.groups,
             &self.members,
+            &self.sessions,
             address,
             rights,
             units,
@@ -89,6 +96,7 @@ impl Tables {
             &mut self.binds,
             &self.groups,
             &mut self.members,
+            &mut self.sessions,
             address,
         )
     }
