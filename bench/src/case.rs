@@ -1,6 +1,6 @@
 //! The cases that are measured: tables, a call, and the outcome that it must have, so that no figure is of a call that went another way.
 
-use gneissfold::Units;
+use gneissfold::{Units, SESSIONS_LENGTH};
 
 /// What is lent to every call.
 #[derive(Clone)]
@@ -9,6 +9,7 @@ pub struct State {
     pub binds: Vec<u8>,
     pub groups: Vec<u8>,
     pub members: Vec<u8>,
+    pub sessions: Vec<u8>,
     pub reply: Vec<u8>,
     pub list: Vec<u8>,
 }
@@ -128,6 +129,8 @@ fn state(binds: usize, matching: usize, members: usize, room: (usize, usize)) ->
         binds: filled(bound, 8, room.0),
         groups,
         members: filled(group, 5, room.1),
+        // Nobody reads, and no call here changes that.
+        sessions: vec![0xFF; SESSIONS_LENGTH],
         reply: vec![0; 500],
         list: vec![0; 3 * (room.0 + room.1).max(1)],
     }

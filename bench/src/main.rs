@@ -29,17 +29,19 @@ fn part(state: &mut State, call: &Call) -> (u8, usize) {
         binds,
         groups,
         members,
+        sessions,
         reply,
         list,
     } = state;
     match call {
         Call::Message(octets) => {
-            let (outcome, count) =
-                gneissfold::message(devices, binds, groups, members, octets, reply, list);
+            let (outcome, count) = gneissfold::message(
+                devices, binds, groups, members, sessions, octets, reply, list,
+            );
             (outcome.number(), count)
         }
         Call::Release(address) => (
-            gneissfold::release(devices, binds, groups, members, *address).number(),
+            gneissfold::release(devices, binds, groups, members, sessions, *address).number(),
             0,
         ),
         Call::CarryOver(old) => (gneissfold::carry_over(old, devices).number(), 0),
@@ -52,15 +54,18 @@ fn other(state: &mut State, call: &Call) -> (u8, usize) {
         binds,
         groups,
         members,
+        sessions,
         reply,
         list,
     } = state;
     let mut count = 0;
     let outcome = match call {
         Call::Message(octets) => other_reading::message(
-            devices, binds, groups, members, octets, reply, list, &mut count,
+            devices, binds, groups, members, sessions, octets, reply, list, &mut count,
         ),
-        Call::Release(address) => other_reading::release(devices, binds, groups, members, *address),
+        Call::Release(address) => {
+            other_reading::release(devices, binds, groups, members, sessions, *address)
+        }
         Call::CarryOver(old) => other_reading::carry_over(old, devices),
     };
     (outcome, count)
