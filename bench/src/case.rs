@@ -129,7 +129,7 @@ fn state(binds: usize, matching: usize, members: usize, room: (usize, usize)) ->
         binds: filled(bound, 8, room.0),
         groups,
         members: filled(group, 5, room.1),
-        // Nobody reads, and no call here changes that.
+        // Nobody reads; no call here starts a session, or ends one.
         sessions: vec![0xFF; SESSIONS_LENGTH],
         reply: vec![0; 500],
         list: vec![0; 3 * (room.0 + room.1).max(1)],
@@ -145,6 +145,12 @@ fn of_any(mut state: State) -> State {
         bind[3] |= 0x7F;
         bind[4] = 0xFF;
     }
+    state
+}
+
+/// The same tables with the switch in session.
+fn reading(mut state: State) -> State {
+    state.sessions[..2].copy_from_slice(&SWITCH.0.to_be_bytes());
     state
 }
 
@@ -231,6 +237,30 @@ pub fn cases() -> Vec<Case> {
             )),
             state: full(),
             answer: (0, 15 + 1 + 1 + 7 + 2 + 3 * 128),
+        },
+        Case {
+            name: "60 of 64 binds read back by index".into(),
+            call: Call::Message(message(
+                SWITCH,
+                CONCENTRATOR,
+                BIND_MANAGEMENT,
+                0x09,
+                &[0, 0, 0xFF],
+            )),
+            state: reading(full()),
+            answer: (0, 15 + 1 + 1 + 8 * 60),
+        },
+        Case {
+            name: "60 of 64 binds read back by source".into(),
+            call: Call::Message(message(
+                SWITCH,
+                CONCENTRATOR,
+                BIND_MANAGEMENT,
+                0x0A,
+                &SWITCH.0.to_be_bytes(),
+            )),
+            state: reading(full()),
+            answer: (0, 15 + 1 + 1 + 8 * 60),
         },
         Case {
             name: "release".into(),
