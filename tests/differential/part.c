@@ -14,7 +14,7 @@
 #include "gneissfold.h"
 
 /* STALE stands in the count or length before a call, which writes it whatever the outcome. */
-enum { MARK = 0xA5, HEAD = 5, MOST = 7, WRITTEN = 255, STALE = 0xBADC0DE };
+enum { MARK = 0xA5, HEAD = 5, MOST = 8, WRITTEN = 255, STALE = 0xBADC0DE };
 
 static size_t guard = 32;
 static uint8_t *memory[MOST];
@@ -67,11 +67,11 @@ static uint8_t call(uint8_t which, uint16_t number, uint8_t octet, size_t *count
     size_t *n = length;
     switch (which) {
     case 1:
-        return gneissfold_message(s[0], n[0], s[1], n[1], s[2], n[2], s[3], n[3], s[4], n[4], s[5], n[5], s[6], n[6], count);
+        return gneissfold_message(s[0], n[0], s[1], n[1], s[2], n[2], s[3], n[3], s[4], n[4], s[5], n[5], s[6], n[6], s[7], n[7], count);
     case 2:
-        return gneissfold_admit(s[0], n[0], s[1], n[1], s[2], n[2], s[3], n[3], number, octet, s[4]);
+        return gneissfold_admit(s[0], n[0], s[1], n[1], s[2], n[2], s[3], n[3], s[4], n[4], number, octet, s[5]);
     case 3:
-        return gneissfold_release(s[0], n[0], s[1], n[1], s[2], n[2], s[3], n[3], number);
+        return gneissfold_release(s[0], n[0], s[1], n[1], s[2], n[2], s[3], n[3], s[4], n[4], number);
     case 4:
         return gneissfold_copy(s[0], n[0], s[1], n[1], number, octet, count);
     case 5:

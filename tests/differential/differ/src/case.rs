@@ -15,6 +15,7 @@ pub struct World {
     pub binds: Vec<u8>,
     pub groups: Vec<u8>,
     pub members: Vec<u8>,
+    pub sessions: Vec<u8>,
 }
 
 #[derive(Clone, PartialEq)]
@@ -87,18 +88,21 @@ macro_rules! answer {
             binds,
             groups,
             members,
+            sessions,
         } = &mut world;
         let outcome = match &mut call {
             Call::Message { msg, reply, list } => $side::message(
-                devices, binds, groups, members, msg, reply, list, &mut count,
+                devices, binds, groups, members, sessions, msg, reply, list, &mut count,
             ),
             &mut Call::Admit {
                 address,
                 rights,
                 ref units,
-            } => $side::admit(devices, binds, groups, members, address, rights, units),
+            } => $side::admit(
+                devices, binds, groups, members, sessions, address, rights, units,
+            ),
             &mut Call::Release { address } => {
-                $side::release(devices, binds, groups, members, address)
+                $side::release(devices, binds, groups, members, sessions, address)
             }
             Call::Copy {
                 msg,
@@ -125,6 +129,13 @@ impl Case {
 
     fn by_reading(&self) -> Answer {
         answer!(other_reading, self)
+    }
+
+    /// Whether the tables are not sound even without sessions, as the other reading has it.
+    pub fn unsound_without_sessions(&self) -> bool {
+        let mut case = self.clone();
+        case.world.sessions.clear();
+        case.by_reading().outcome == 16
     }
 
     /// The part's answer, or all of the case if the two answers differ.

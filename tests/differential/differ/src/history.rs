@@ -3,6 +3,7 @@
 
 mod entry;
 mod matching;
+mod reading;
 mod standing;
 
 pub use entry::Entry;
@@ -11,15 +12,42 @@ pub use standing::{octets, Standing, Unit};
 
 use crate::generate::UnitSet;
 use entry::{Bind, Member};
+use reading::Reading;
 
-#[derive(Default)]
 pub struct History {
     entries: Vec<Entry>,
+    reading: Reading,
 }
 
 impl History {
-    pub fn push(&mut self, entry: Entry) {
+    /// No call yet. Of the session table its number of records is known, which the caller chose.
+    pub fn of(sessions: usize) -> History {
+        History {
+            entries: Vec::new(),
+            reading: Reading::of(sessions),
+        }
+    }
+
+    /// One call more and its answer, unless binds were read back otherwise than the history has it. Whether a device was shut out: its read refused because
+    /// another changed binds.
+    pub fn push(&mut self, entry: Entry) -> Result<bool, String> {
+        let judged = self.reading.take(&entry);
         self.entries.push(entry);
+        judged
+    }
+
+    pub fn calls(&self) -> usize {
+        self.entries.len()
+    }
+
+    /// The payload of the last reply; nothing unless the last call was a command that was served.
+    pub fn reply(&self) -> &[u8] {
+        self.entries.last().map_or(&[], Entry::reply)
+    }
+
+    /// The devices in session.
+    pub fn readers(&self) -> &[u16] {
+        self.reading.open()
     }
 
     /// What `added` finds and no later entry withdraws.

@@ -33,8 +33,9 @@ struct Options {
 }
 
 /// From here on every outcome and code must have come up, and all that binds with
-/// special values bring about, or the test itself is at fault. Of so many calls in
-/// runs the latter alone is asked: there are outcomes that no run meets.
+/// special values and reading them back bring about, or the test itself is at fault.
+/// Of so many calls in runs the latter alone is asked: there are outcomes that no
+/// run meets.
 const ENOUGH_CALLS: usize = 100_000;
 
 fn options() -> Result<Options, String> {
@@ -127,8 +128,12 @@ fn main() -> ExitCode {
     if options.calls >= ENOUGH_CALLS {
         missing.extend(tally.missing());
     }
-    if options.calls.max(options.runs * options.length) >= ENOUGH_CALLS {
-        missing.extend(tally.missing_any());
+    let in_runs = options.runs * options.length;
+    if options.calls.max(in_runs) >= ENOUGH_CALLS {
+        missing.extend(tally.missing_of_requests());
+    }
+    if in_runs >= ENOUGH_CALLS {
+        missing.extend(tally.missing_of_runs());
     }
     if !missing.is_empty() {
         println!("never came up: {}", missing.join(", "));

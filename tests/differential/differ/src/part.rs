@@ -100,6 +100,7 @@ pub fn message(
     binds: &mut [u8],
     groups: &mut [u8],
     members: &mut [u8],
+    sessions: &mut [u8],
     msg: &[u8],
     reply: &mut [u8],
     list: &mut [u8],
@@ -110,6 +111,7 @@ pub fn message(
         Lent::Written(binds),
         Lent::Written(groups),
         Lent::Written(members),
+        Lent::Written(sessions),
         Lent::Kept(msg),
         Lent::Written(reply),
         Lent::Written(list),
@@ -119,11 +121,13 @@ pub fn message(
     outcome
 }
 
+#[allow(clippy::too_many_arguments)]
 pub fn admit(
     devices: &mut [u8],
     binds: &[u8],
     groups: &[u8],
     members: &[u8],
+    sessions: &[u8],
     address: u16,
     rights: u8,
     units: &[u8; 32],
@@ -133,6 +137,7 @@ pub fn admit(
         Lent::Kept(binds),
         Lent::Kept(groups),
         Lent::Kept(members),
+        Lent::Kept(sessions),
         Lent::Kept(units),
     ];
     call(2, address, rights, lent).0
@@ -143,6 +148,7 @@ pub fn release(
     binds: &mut [u8],
     groups: &[u8],
     members: &mut [u8],
+    sessions: &mut [u8],
     address: u16,
 ) -> u8 {
     let lent = &mut [
@@ -150,6 +156,7 @@ pub fn release(
         Lent::Written(binds),
         Lent::Kept(groups),
         Lent::Written(members),
+        Lent::Written(sessions),
     ];
     call(3, address, 0, lent).0
 }

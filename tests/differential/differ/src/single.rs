@@ -1,7 +1,7 @@
 //! Random single calls, each compared in full with the other reading.
 
 use crate::case::{Call, Case, World};
-use crate::generate::{self, View, DEVICE};
+use crate::generate::{self, View, BIND};
 use crate::rng::Rng;
 use crate::tally::Tally;
 
@@ -32,7 +32,7 @@ pub fn try_calls(rng: &mut Rng, calls: usize, tally: &mut Tally) -> Result<(), S
         let answer = case
             .compared()
             .map_err(|report| format!("call {at}: {report}"))?;
-        tally.after(&answer);
+        tally.after(&case, &answer);
         if growing {
             grown = answer.world;
         }
@@ -43,8 +43,8 @@ pub fn try_calls(rng: &mut Rng, calls: usize, tally: &mut Tally) -> Result<(), S
 fn some_world(rng: &mut Rng, grown: &World) -> World {
     let mut world = match rng.below(20) {
         0 => return generate::random_world(rng),
-        1 if rng.percent(50) => generate::crowded_world(rng),
-        1..=9 => generate::constructed_world(rng),
+        1 => generate::crowded_world(rng),
+        2..=9 => generate::constructed_world(rng),
         _ => grown.clone(),
     };
     if rng.percent(55) {
@@ -60,14 +60,14 @@ fn some_call(rng: &mut Rng, world: &World) -> Call {
     let view = View::of(world);
     match rng.below(100) {
         0..=7 => admit(rng),
-        8..=9 => Call::Release {
-            address: release_address(rng, world),
+        8..=11 => Call::Release {
+            address: view.to_release(rng),
         },
-        10..=13 => {
+        12..=15 => {
             let msg = some_message(rng, &view);
             copy(rng, msg)
         }
-        14..=16 => {
+        16..=18 => {
             let words: Vec<u16> = (0..12).map(|_| rng.word()).collect();
             let fields = words.try_into().unwrap();
             Call::Read {
@@ -75,7 +75,7 @@ fn some_call(rng: &mut Rng, world: &World) -> Call {
                 fields,
             }
         }
-        17..=19 => {
+        19..=21 => {
             let old = generate::old_devices(rng);
             let new = generate::new_devices(rng, &old, world);
             Call::CarryOver { old, new }
@@ -93,6 +93,8 @@ fn some_message(rng: &mut Rng, view: &View) -> Vec<u8> {
             let length = rng.below(40);
             rng.octets(length)
         }
+        // A read matches more than a reply holds.
+        1..=10 if view.bind_count() > 60 => view.reading_command(rng),
         1..=6 => view.forward(rng),
         7..=12 => view.any_command(rng),
         _ => view.command(rng),
@@ -115,6 +117,8 @@ fn message(rng: &mut Rng, world: &World, msg: Vec<u8>) -> Call {
         2 => 0,
         3 => 501 + rng.below(100),
         4 => 0x1_0000 + rng.below(2),
+        // Room for an entry more than a reply holds.
+        5..=14 if world.binds.len() > 60 * BIND => 505 + rng.below(8),
         _ => 500,
     };
     let least = least_list(world);
@@ -147,17 +151,6 @@ pub fn admit(rng: &mut Rng) -> Call {
         address,
         rights,
         units: generate::perhaps_set(rng),
-    }
-}
-
-pub fn release_address(rng: &mut Rng, world: &World) -> u16 {
-    let record = rng.below(world.devices.len() / DEVICE) * DEVICE;
-    match rng.below(10) {
-        0 => generate::some_address(rng),
-        1 => rng.weighted(&[(1, 0), (1, 0xFFFF), (1, 0x7FFF), (1, 0x8001)]),
-        // It may stand free; then 0xFFFF is asked for.
-        _ if world.devices.len() >= DEVICE => generate::word(&world.devices, record),
-        _ => 1,
     }
 }
 

@@ -1,6 +1,8 @@
 //! Counts what was tried, so that a test that tried nothing shows.
 
 mod any;
+mod reading;
+mod unsound;
 
 use crate::case::{Answer, Call, Case};
 use crate::generate::COMMANDS;
@@ -14,7 +16,11 @@ pub struct Tally {
     outcomes: BTreeMap<(&'static str, u8), usize>,
     codes: BTreeMap<((u8, u8), u8), usize>,
     any: BTreeMap<String, usize>,
+    reading: BTreeMap<String, usize>,
 }
+
+/// What runs alone meet of reading binds back.
+const SHUT_OUT: &str = "read refused because another device changed binds";
 
 impl Tally {
     pub fn new(each: bool) -> Tally {
@@ -31,7 +37,12 @@ impl Tally {
         self.calls += 1;
     }
 
-    pub fn after(&mut self, answer: &Answer) {
+    /// A read was refused because another device changed binds.
+    pub fn shut_out(&mut self) {
+        *self.reading.entry(SHUT_OUT.into()).or_default() += 1;
+    }
+
+    pub fn after(&mut self, case: &Case, answer: &Answer) {
         let name = match &answer.call {
             Call::Message { .. } => "message",
             Call::Admit { .. } => "admit",
@@ -50,6 +61,10 @@ impl Tally {
         for met in any::met(answer) {
             *self.any.entry(met).or_default() += 1;
         }
+        let unsound = unsound::met(case, answer);
+        for met in reading::met(case, answer).into_iter().chain(unsound) {
+            *self.reading.entry(met).or_default() += 1;
+        }
     }
 
     pub fn print(&self) {
@@ -59,12 +74,12 @@ impl Tally {
         for (((uid, member), code), times) in &self.codes {
             println!("  command {uid:02X}.{member:02X} code {code:02X}: {times}");
         }
-        for (met, times) in &self.any {
+        for (met, times) in self.any.iter().chain(&self.reading) {
             println!("  {met}: {times}");
         }
     }
 
-    /// Outcomes and codes of the paper that never came up.
+    /// Outcomes and codes of the paper that never came up, and ways in which sessions are not sound.
     pub fn missing(&self) -> Vec<String> {
         let outcomes: [(&'static str, &[u8]); 6] = [
             ("message", &[0, 1, 2, 10, 11, 12, 13, 14, 15, 16, 17, 18]),
@@ -86,21 +101,35 @@ impl Tally {
             let never = codes.filter(|&&code| !self.codes.contains_key(&(command, code)));
             missing.extend(never.map(|code| format!("command {command:02X?} code {code:02X}")));
         }
+        let mut unsound = unsound::all();
+        unsound.retain(|name| !self.reading.contains_key(name));
+        missing.extend(unsound);
         missing
     }
 
-    /// What never came up of the special values, which runs meet as single calls do.
-    pub fn missing_any(&self) -> Vec<String> {
-        let mut all = any::all();
-        all.retain(|name| !self.any.contains_key(name));
-        all
+    /// What never came up of the special values and of reading binds back, which runs meet as single calls do.
+    pub fn missing_of_requests(&self) -> Vec<String> {
+        let mut missing = any::all();
+        missing.retain(|name| !self.any.contains_key(name));
+        let mut of_reading = reading::all();
+        of_reading.retain(|name| !self.reading.contains_key(name));
+        missing.extend(of_reading);
+        missing
+    }
+
+    /// What runs alone meet and never came up.
+    pub fn missing_of_runs(&self) -> Vec<String> {
+        let met = self.reading.contains_key(SHUT_OUT);
+        Vec::from_iter((!met).then(|| SHUT_OUT.into()))
     }
 }
 
-/// The codes that a command can answer ("Commands and codes").
+/// The codes that a command can answer ("Commands and codes"; "CR 1").
 fn codes_of(command: (u8, u8)) -> &'static [u8] {
     match command {
-        (2, 1) | (3, 1) | (3, 3) => &[0x00, 0x01, 0x02, 0xFE],
+        (2, 1 | 7) | (3, 1) | (3, 3) => &[0x00, 0x01, 0x02, 0xFE],
+        (2, 8) => &[0x00, 0x02, 0xFF],
+        (2, 9..) => &[0x00, 0x02, 0x20],
         (3, 5) => &[0x00, 0x02],
         _ => &[0x00, 0x01, 0x02],
     }

@@ -12,7 +12,8 @@ impl fmt::Display for World {
         writeln!(to, "  devices {}", hexadecimal(&self.devices))?;
         writeln!(to, "  binds   {}", hexadecimal(&self.binds))?;
         writeln!(to, "  groups  {}", hexadecimal(&self.groups))?;
-        writeln!(to, "  members {}", hexadecimal(&self.members))
+        writeln!(to, "  members {}", hexadecimal(&self.members))?;
+        writeln!(to, "  sessions {}", hexadecimal(&self.sessions))
     }
 }
 

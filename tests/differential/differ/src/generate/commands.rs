@@ -1,4 +1,4 @@
-//! The eleven commands to D'0:U'0, with their payloads ("Commands and codes").
+//! The commands to D'0:U'0, with their payloads ("Commands and codes"; "CR 1").
 
 use super::message::{header, with_payload};
 use super::records::MEMBER;
@@ -6,13 +6,20 @@ use super::view::View;
 use crate::rng::Rng;
 
 /// UID and member of each command, in the order of document 000.
-pub const COMMANDS: [(u8, u8); 11] = [
+pub const COMMANDS: [(u8, u8); 18] = [
     (2, 1),
     (2, 2),
     (2, 3),
     (2, 4),
     (2, 5),
     (2, 6),
+    (2, 7),
+    (2, 8),
+    (2, 9),
+    (2, 10),
+    (2, 11),
+    (2, 12),
+    (2, 13),
     (3, 1),
     (3, 2),
     (3, 3),
@@ -22,7 +29,7 @@ pub const COMMANDS: [(u8, u8); 11] = [
 
 /// How often each command is tried. In a run additions must outweigh the
 /// forms that take many records at once, or no table ever fills.
-const WEIGHTS: [usize; 11] = [32, 6, 1, 2, 2, 2, 9, 3, 30, 6, 8];
+const WEIGHTS: [usize; 18] = [32, 6, 1, 2, 2, 2, 8, 2, 5, 3, 3, 3, 3, 9, 3, 30, 6, 8];
 
 impl View {
     /// The payload of a command, mostly of the right length, the ignored top
@@ -40,10 +47,12 @@ impl View {
         let mut payload = match command {
             (2, 1) => self.bind(rng).to_vec(),
             (2, 2) => bind.to_vec(),
-            (2, 3) => bind[..2].to_vec(),
-            (2, 4) => bind[..3].to_vec(),
-            (2, 5) => bind[5..7].to_vec(),
-            (2, 6) => bind[5..].to_vec(),
+            (2, 3 | 10) => bind[..2].to_vec(),
+            (2, 4 | 11) => bind[..3].to_vec(),
+            (2, 5 | 12) => bind[5..7].to_vec(),
+            (2, 6 | 13) => bind[5..].to_vec(),
+            (2, 7 | 8) => Vec::new(),
+            (2, 9) => self.index(rng),
             (3, 1) => return name(rng),
             (3, 3) => self.member(rng).to_vec(),
             (3, 4) => match rng.pick(&self.members) {
@@ -55,16 +64,18 @@ impl View {
         if rng.percent(2) {
             payload.fill(0xFF);
         }
-        if rng.percent(12) {
+        if !payload.is_empty() && rng.percent(12) {
             payload[0] ^= 0x80;
         }
         if payload.len() == MEMBER && rng.percent(12) {
             payload[2] ^= 0x80;
         }
-        match rng.below(40) {
-            0 => payload.truncate(rng.below(payload.len())),
-            1 => payload.push(rng.octet()),
-            _ => (),
+        let reads = command.0 == 2 && command.1 >= 7;
+        if rng.percent(if reads { 8 } else { 5 }) {
+            match rng.below(2) {
+                0 if !payload.is_empty() => payload.truncate(rng.below(payload.len())),
+                _ => payload.push(rng.octet()),
+            }
         }
         payload
     }
@@ -82,10 +93,25 @@ impl View {
         self.command_of(rng, command)
     }
 
-    fn command_of(&self, rng: &mut Rng, command: (u8, u8)) -> Vec<u8> {
+    /// This command, mostly with a payload that suits it.
+    pub fn command_of(&self, rng: &mut Rng, command: (u8, u8)) -> Vec<u8> {
         let payload = self.payload(rng, command);
+        let sender = self.sender_of(rng, command);
+        self.sent(rng, command, sender, &payload)
+    }
+
+    /// An Add Bind sent by D'0:U'0, which has rights: like the first bind that is there but for its UID, or any.
+    pub fn addition(&self, rng: &mut Rng, alike: bool) -> Vec<u8> {
+        let bind = if alike {
+            self.one_of_many(rng)
+        } else {
+            self.bind(rng)
+        };
+        self.sent(rng, (2, 1), (0, 0), &bind)
+    }
+
+    fn sent(&self, rng: &mut Rng, command: (u8, u8), sender: (u16, u8), payload: &[u8]) -> Vec<u8> {
         let kind = 1 + rng.octet() % 2;
-        let sender = self.sender(rng);
         let interface = 0x8000 | u16::from(command.0);
         let mut msg = header(rng, sender, 0, 0, kind, interface, command.1);
         if rng.percent(3) {
@@ -101,7 +127,7 @@ impl View {
                 _ => msg[5] = 1 + rng.octet() % 2 * 254,
             }
         }
-        with_payload(rng, msg, &payload)
+        with_payload(rng, msg, payload)
     }
 }
 

@@ -1,4 +1,4 @@
-//! The records of the four tables ("Tables").
+//! The records of the tables ("Tables"; sessions: "CR 1").
 
 use crate::case::World;
 use crate::rng::Rng;
@@ -8,10 +8,11 @@ pub const DEVICE: usize = 36;
 pub const BIND: usize = 8;
 pub const GROUP: usize = 16;
 pub const MEMBER: usize = 5;
-/// In the order devices, binds, groups, members.
-pub const SIZES: [usize; 4] = [DEVICE, BIND, GROUP, MEMBER];
+pub const SESSION: usize = 2;
+/// In the order devices, binds, groups, members, sessions.
+pub const SIZES: [usize; 5] = [DEVICE, BIND, GROUP, MEMBER, SESSION];
 /// Most records of each table, in the same order.
-pub const MOST: [usize; 4] = [64, 64, 16, 128];
+pub const MOST: [usize; 5] = [64, 64, 16, 128, 8];
 
 pub fn free(record: &[u8]) -> bool {
     record.iter().all(|&octet| octet == 0xFF)
@@ -45,6 +46,7 @@ pub fn table(world: &mut World, which: usize) -> &mut Vec<u8> {
         0 => &mut world.devices,
         1 => &mut world.binds,
         2 => &mut world.groups,
-        _ => &mut world.members,
+        3 => &mut world.members,
+        _ => &mut world.sessions,
     }
 }

@@ -1,8 +1,9 @@
-//! Tables that are sound ("Tables are sound if"): free, crowded, and built record by record.
+//! Tables that are sound ("Tables are sound if"): free, and built record by record.
 
 use super::any::{perhaps_any, ANY_DEVICE, ANY_UNIT};
-use super::records::{word, BIND, DEVICE, GROUP, MEMBER, MOST, UNITS};
-use super::units::{has, set_of, some_set, UnitSet};
+use super::records::{word, BIND, DEVICE, GROUP, MEMBER, MOST, SESSION, UNITS};
+use super::sessions::open_sessions;
+use super::units::{has, some_set, UnitSet};
 use super::view::{some_address, View};
 use crate::case::World;
 use crate::rng::Rng;
@@ -19,12 +20,13 @@ pub(super) fn records(rng: &mut Rng, most: usize) -> usize {
 /// Free tables of random sizes within the limits, small ones often so that
 /// they fill up.
 pub fn free_world(rng: &mut Rng) -> World {
-    let [devices, binds, groups, members] = MOST.map(|most| records(rng, most));
+    let [devices, binds, groups, members, sessions] = MOST.map(|most| records(rng, most));
     World {
         devices: vec![0xFF; DEVICE * devices.max(rng.below(5))],
         binds: vec![0xFF; BIND * binds],
         groups: vec![0xFF; GROUP * groups],
         members: vec![0xFF; MEMBER * members],
+        sessions: vec![0xFF; SESSION * sessions],
     }
 }
 
@@ -75,56 +77,12 @@ pub(super) fn device_address(rng: &mut Rng, wide: bool) -> u16 {
     }
 }
 
-fn device(address: u16, rights: bool, units: UnitSet) -> [u8; DEVICE] {
+pub(super) fn device(address: u16, rights: bool, units: UnitSet) -> [u8; DEVICE] {
     let mut record = [0; DEVICE];
     record[..2].copy_from_slice(&address.to_be_bytes());
     record[2] = u8::from(rights);
     record[UNITS..].copy_from_slice(&units);
     record
-}
-
-/// Full tables with every member in one group and every bind from one source,
-/// written out or by special values, so that the list and the reply become as
-/// long as they can.
-pub fn crowded_world(rng: &mut Rng) -> World {
-    let mut world = World::default();
-    // Ten units for each device, unit 0 first, with gaps of one width.
-    let step = rng.weighted(&[(10, 1), (5, 8), (5, 9), (5, 28)]);
-    let numbers = [0, 1, 2, 3, 4, 5, 6, 7, 8, 9].map(|at| at * step);
-    for address in 1..=MOST[0] as u16 {
-        let device = device(address, true, set_of(numbers));
-        world.devices.extend(device);
-    }
-    for address in 1..=MOST[2] as u8 {
-        world.groups.extend([0, address, 13]);
-        world.groups.extend(rng.octets(13));
-    }
-    let mut units: Vec<_> = (0..640)
-        .map(|at| [0, 1 + (at / 10) as u8, numbers[at % 10]])
-        .collect();
-    for at in (1..units.len()).rev() {
-        units.swap(at, rng.below(at + 1));
-    }
-    let group = 1 + rng.octet() % 16;
-    for [d1, d2, unit] in &units[..MOST[3]] {
-        world.members.extend([0, group, *d1, *d2, *unit]);
-    }
-    let [s1, s2, source_unit] = units[rng.below(MOST[3] + 1)];
-    let through_group = rng.below(MOST[1]);
-    // Whether scene switches' binds are among them.
-    let scenes = rng.percent(50);
-    for (at, destination) in units[MOST[3] + 1..][..MOST[1]].iter().enumerate() {
-        let [d1, d2, unit] = if at == through_group {
-            [0x80, group, 0]
-        } else {
-            *destination
-        };
-        let bind = [s1, s2, source_unit, 0x82, 0x00, d1, d2, unit];
-        world
-            .binds
-            .extend(if scenes { perhaps_any(rng, bind) } else { bind });
-    }
-    world
 }
 
 /// Sound tables built record by record ("Tables are sound if"), with free
@@ -182,6 +140,7 @@ pub fn constructed_world(rng: &mut Rng) -> World {
         }
         bind_holds(&view, &bind).then_some(bind)
     });
+    open_sessions(rng, &mut world);
     world
 }
 

@@ -2,6 +2,7 @@
 
 use super::any::{put_uid, ANY_DEVICE, ANY_INTERFACE, ANY_UNIT};
 use super::records::{free, some_record, table, GROUP, MOST, SIZES, UNITS};
+use super::sessions::spoil_sessions;
 use super::units::{near, put, some_unit};
 use super::view::some_address;
 use crate::case::World;
@@ -9,17 +10,18 @@ use crate::rng::Rng;
 
 /// Breaks, or nearly breaks, one rule of "Tables are sound if".
 pub fn spoil(rng: &mut Rng, world: &mut World) {
-    let which = rng.below(4);
-    let rule = rng.below(12);
+    let which = rng.below(SIZES.len());
+    let rule = rng.below(13);
     // What others may name is gone, or a field is out of range.
     let spoilt = match rule {
         0..=5 => return spoil_table(rng, table(world, which), SIZES[which], MOST[which]),
-        6 => which / 2 * 2,
+        6 => which % 2 * 2,
         7 => which,
         8 => 0,
         9 => 2,
         10 => 1,
-        _ => 3,
+        11 => 3,
+        _ => return spoil_sessions(rng, &mut world.sessions),
     };
     let Some(record) = some_record(rng, table(world, spoilt), SIZES[spoilt]) else {
         return;
@@ -91,7 +93,7 @@ pub(super) fn spoil_table(rng: &mut Rng, table: &mut Vec<u8>, size: usize, most:
 fn spoil_address(rng: &mut Rng, record: &mut [u8], which: usize) {
     let value = rng.weighted(&[(1, 0), (1, 0x7FFF), (1, 0x7FFE), (1, 0x8001), (1, 0xFFFF)]);
     let at = match which {
-        0 | 2 => 0,
+        0 | 2 | 4 => 0,
         1 => [0, 3, 5][rng.below(3)],
         _ => [0, 2][rng.below(2)],
     };

@@ -1,7 +1,7 @@
 //! What stands in the tables, to aim calls at: units, groups, binds and members that are there, or only just are not.
 
 use super::any::{perhaps_any, ANY_INTERFACE};
-use super::records::{used, word, BIND, DEVICE, GROUP, MEMBER, UNITS};
+use super::records::{used, word, BIND, DEVICE, GROUP, MEMBER, SESSION, UNITS};
 use super::units::{near, some_unit};
 use crate::case::World;
 use crate::rng::Rng;
@@ -14,6 +14,7 @@ pub struct View {
     pub(super) binds: Vec<[u8; BIND]>,
     pub(super) groups: Vec<[u8; GROUP]>,
     pub(super) members: Vec<[u8; MEMBER]>,
+    pub(super) sessions: Vec<[u8; SESSION]>,
 }
 
 impl View {
@@ -23,7 +24,12 @@ impl View {
             binds: used(&world.binds),
             groups: used(&world.groups),
             members: used(&world.members),
+            sessions: used(&world.sessions),
         }
+    }
+
+    pub fn bind_count(&self) -> usize {
+        self.binds.len()
     }
 
     /// A unit that exists; D'0:U'0 if there is none.
@@ -68,6 +74,21 @@ impl View {
             70..=92 => self.unit(rng),
             _ => self.perhaps_unit(rng),
         }
+    }
+
+    /// Whom to release: a device, one that reads, one that a bind names, one that only has the number of a group, or nobody.
+    pub fn to_release(&self, rng: &mut Rng) -> u16 {
+        let address = match rng.below(12) {
+            0 => Some(some_address(rng)),
+            1 => Some(rng.weighted(&[(1, 0), (1, 0xFFFF), (1, 0x7FFF), (1, 0x8001)])),
+            2 | 3 => rng.pick(&self.sessions).map(|session| word(&session, 0)),
+            4 => rng
+                .pick(&self.binds)
+                .map(|bind| word(&bind, 5 * rng.below(2)) & 0x7FFF),
+            5 => rng.pick(&self.groups).map(|group| word(&group, 0)),
+            _ => rng.pick(&self.devices).map(|device| word(&device, 0)),
+        };
+        address.unwrap_or(1)
     }
 
     pub(super) fn group(&self, rng: &mut Rng) -> u16 {

@@ -17,6 +17,7 @@ pub enum Entry {
     },
     Admit {
         address: u16,
+        rights: u8,
         units: UnitSet,
         outcome: u8,
     },
@@ -44,12 +45,46 @@ impl Entry {
                     payload,
                 })
             }
-            (&Call::Admit { address, units, .. }, _) => Some(Entry::Admit {
+            (
+                &Call::Admit {
+                    address,
+                    rights,
+                    units,
+                },
+                _,
+            ) => Some(Entry::Admit {
                 address,
+                rights,
                 units,
                 outcome,
             }),
             (&Call::Release { address }, _) => Some(Entry::Release { address, outcome }),
+            _ => None,
+        }
+    }
+
+    /// The payload of the reply; nothing unless it was a command that was served.
+    pub fn reply(&self) -> &[u8] {
+        match self {
+            Entry::Message { payload, .. } => payload,
+            _ => &[],
+        }
+    }
+
+    /// The device that sent a message.
+    pub(super) fn sender(&self) -> Option<u16> {
+        match self {
+            Entry::Message { msg, .. } => Some(word(msg.get(..2)?, 0) & 0x7FFF),
+            _ => None,
+        }
+    }
+
+    /// Member and payload of a command by which binds are read back, Start and End among them, that was served.
+    pub(super) fn reading(&self) -> Option<(u8, &[u8])> {
+        match self {
+            Entry::Message {
+                msg, outcome: 0, ..
+            } if msg[11] == 2 && (0x07..=0x0D).contains(&msg[12]) => Some((msg[12], &msg[15..])),
             _ => None,
         }
     }
@@ -73,7 +108,21 @@ impl Entry {
                 address,
                 units,
                 outcome: 0,
+                ..
             } => Some((address, units)),
+            _ => None,
+        }
+    }
+
+    /// A device that was admitted with rights.
+    pub(super) fn admitted_with_rights(&self) -> Option<u16> {
+        match *self {
+            Entry::Admit {
+                address,
+                rights: 1,
+                outcome: 0,
+                ..
+            } => Some(address),
             _ => None,
         }
     }
@@ -129,10 +178,7 @@ impl Entry {
         }
         match self.done() {
             Some((2, 2, payload)) => plain_bind(payload) == *bind,
-            Some((2, 3, payload)) => word(payload, 0) & 0x7FFF == source,
-            Some((2, 4, payload)) => word(payload, 0) & 0x7FFF == source && payload[2] == bind[2],
-            Some((2, 5, payload)) => word(payload, 0) == destination,
-            Some((2, 6, payload)) => word(payload, 0) == destination && payload[2] == bind[7],
+            Some((2, member @ 3..=6, payload)) => named(member, payload, bind),
             Some((3, 2, payload)) => word(payload, 0) | 0x8000 == destination,
             _ => false,
         }
@@ -142,6 +188,17 @@ impl Entry {
         self.released() == Some(word(member, 2))
             || self.deleted() == Some(word(member, 0))
             || matches!(self.done(), Some((3, 4, payload)) if plain_member(payload) == *member)
+    }
+}
+
+/// Whether the payload of a removal by one end, whose member this is, names the bind. A source's top bit is ignored, a destination's flag counts.
+pub(super) fn named(member: u8, payload: &[u8], bind: &Bind) -> bool {
+    let (source, destination) = (word(bind, 0), word(bind, 5));
+    match member {
+        3 => word(payload, 0) & 0x7FFF == source,
+        4 => word(payload, 0) & 0x7FFF == source && payload[2] == bind[2],
+        5 => word(payload, 0) == destination,
+        _ => word(payload, 0) == destination && payload[2] == bind[7],
     }
 }
 
@@ -176,11 +233,12 @@ impl fmt::Display for Entry {
             ),
             Entry::Admit {
                 address,
+                rights,
                 units,
                 outcome,
             } => writeln!(
                 to,
-                "  admit {address:04X} units {} -> {outcome}",
+                "  admit {address:04X} rights {rights:02X} units {} -> {outcome}",
                 hexadecimal(units)
             ),
             Entry::Release { address, outcome } => {

@@ -11,10 +11,10 @@ const CARRY_OVER: u8 = 6;
 const DEVICES: usize = 0;
 pub const BINDS: usize = 1;
 pub const MEMBERS: usize = 3;
-pub const SENT: usize = 4;
-pub const REPLY: usize = 5;
-pub const LIST: usize = 6;
-pub const UNITS: usize = 4;
+pub const SENT: usize = 5;
+pub const REPLY: usize = 6;
+pub const LIST: usize = 7;
+pub const UNITS: usize = 5;
 pub const OLD: usize = 0;
 pub const NEW: usize = 1;
 
@@ -22,8 +22,8 @@ pub const NEW: usize = 1;
 const DEVICE: usize = 36;
 const HEAD: usize = 4;
 
-/// A call and what it came to. The slices are devices, binds, groups, members, for a message also the message, the reply and the list, and for an
-/// admission the units; for a copy the message and the room; for reading the message and its fields; for a carry-over the old devices and the new.
+/// A call and what it came to. The slices are devices, binds, groups, members, sessions, for a message also the message, the reply and the list, and for
+/// an admission the units; for a copy the message and the room; for reading the message and its fields; for a carry-over the old devices and the new.
 pub struct Exchange {
     pub call: u8,
     pub before: Vec<Vec<u8>>,
