@@ -107,7 +107,7 @@ pub const FAULTS: &[Fault] = &[
     ("any-unit-to-its-own-device-refused", false, |e| {
         e.refused(|bind| any_unit(bind) && bind[..2] == bind[5..7])
     }),
-    ("absent-device-with-any-unit-let-in", false, |e| {
+    ("absent-device-with-any-unit-let-in", true, |e| {
         let absent = |bind: &[u8; 8]| any_unit(bind) && !any_device(bind) && !e.is_device(bind);
         if e.named::<8>(1, 2).filter(absent).is_some() {
             e.after[REPLY][15] = 0x00;

@@ -1,7 +1,7 @@
 //! Binds beside requests and commands, and what a fault in reading their special values
 //! ("CR 4") makes of the answer.
 
-use super::exchange::{Exchange, BINDS, LIST, MEMBERS, MESSAGE, REPLY, SENT};
+use super::exchange::{Exchange, BINDS, LIST, MEMBERS, MESSAGE, REPLY, SENT, SESSIONS};
 use std::collections::BTreeSet;
 
 /// D'7FFF:U'FF of individual type.
@@ -106,6 +106,7 @@ impl Exchange {
     pub fn refused(&mut self, which: fn(&[u8]) -> bool) {
         if self.named(1, 0).is_some_and(|bind: [u8; 8]| which(&bind)) {
             self.after[BINDS] = self.before[BINDS].clone();
+            self.after[SESSIONS] = self.before[SESSIONS].clone();
             self.after[REPLY][15] = 0x02;
         }
     }

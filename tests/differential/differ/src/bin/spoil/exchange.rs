@@ -11,6 +11,7 @@ const CARRY_OVER: u8 = 6;
 const DEVICES: usize = 0;
 pub const BINDS: usize = 1;
 pub const MEMBERS: usize = 3;
+pub const SESSIONS: usize = 4;
 pub const SENT: usize = 5;
 pub const REPLY: usize = 6;
 pub const LIST: usize = 7;
@@ -68,6 +69,23 @@ impl Exchange {
         } else {
             None
         }
+    }
+
+    /// Rights of the device whose address stands first here.
+    pub fn has_rights(&self, named: &[u8]) -> bool {
+        let mut devices = self.before[DEVICES].chunks_exact(DEVICE);
+        named[..2] == [0, 0] || devices.any(|device| device[..2] == named[..2] && device[2] == 1)
+    }
+
+    /// The device that was released.
+    pub fn released(&self) -> Option<[u8; 2]> {
+        if self.call != RELEASE || self.outcome != 0 {
+            return None;
+        }
+        let before = self.before[DEVICES].chunks_exact(DEVICE);
+        let mut both = before.zip(self.after[DEVICES].chunks_exact(DEVICE));
+        let (device, _) = both.find(|(before, after)| before != after)?;
+        Some([device[0], device[1]])
     }
 
     /// Whether a device has the address that stands first here.

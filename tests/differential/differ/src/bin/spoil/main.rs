@@ -6,8 +6,13 @@
 
 mod any;
 mod binds;
+mod closed;
 mod exchange;
 mod faults;
+mod reading;
+mod reads;
+mod session_tables;
+mod sessions;
 
 use exchange::Exchange;
 use faults::{Fault, Spoil};
@@ -90,7 +95,17 @@ fn serve(spoil: Spoil, part: &[String]) -> io::Result<()> {
 }
 
 fn faults() -> impl Iterator<Item = Fault> {
-    faults::FAULTS.iter().chain(any::FAULTS).copied()
+    [
+        faults::FAULTS,
+        any::FAULTS,
+        sessions::FAULTS,
+        closed::FAULTS,
+        session_tables::FAULTS,
+        reads::FAULTS,
+    ]
+    .into_iter()
+    .flatten()
+    .copied()
 }
 
 fn main() -> ExitCode {
