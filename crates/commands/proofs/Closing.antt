@@ -12,7 +12,8 @@ use Rattle.rules.specs.Commands.{removal, row, judge, onOk, done, replyPayload}
 use Rattle.rules.proofs.Lists.{and-true, and-false}
 use Rattle.rules.proofs.Frames.{changed-nothing, replaced, replaced-same}
 use Rattle.rules.proofs.Granted.{pass, invalid}
-use Rattle.commands.specs.Perform.{Performed, performed, performing, acting, judging, touches}
+use Rattle.acting.specs.Acting.{Performed, performed, performing, acting}
+use Rattle.commands.specs.Perform.{judging, touches}
 
 -- of a command that is granted
 pub touches-alters : (T : Tables) (s : DeviceAddress) (k : Command) (p : List ℕ) → row k .verdict T s p ≡ ok

@@ -1,4 +1,3 @@
--- The laws that the proofs of this crate and of those above it cite.
-pub mod Sizes
-pub mod Performing
+-- The laws that the proofs of this crate cite.
+pub mod Checks
 pub mod Closing

@@ -9,58 +9,8 @@ ghost use Rattle.rules.specs.Types.{Devices, Binds};
 ghost use Rattle.rules.specs.Frame.{Lent, beside, table};
 ghost use Rattle.rules.specs.Exists.{hasRights};
 ghost use Rattle.rules.specs.Commands.{row};
-ghost use Rattle.commands.specs.Perform.{Workable, performed, acting, judging, touches};
-
-// The command's own handler. The code that it gives is the payload of the reply, unless more is named.
-fn act(
-    devices: &[u8],
-    binds: &mut [u8],
-    groups: &mut [u8],
-    members: &mut [u8],
-    sessions: &mut [u8],
-    source: DeviceAddress,
-    command: Command,
-    payload: &[u8],
-    out: &mut [u8],
-) -> usize
-    requires { ⌜ Workable (now devices) (now binds) (now groups) (now members) (now sessions)
-        × (length (now payload) ≡ row command .length (now payload)) × (longest ≤ headerLength + length (now out)) ⌝ }
-    ensures { λ r. ⌜ ((L : Lent)
-        → performed r (beside L (now (devices .entry)) (now (binds .exit)) (now (groups .exit)) (now (members .exit)) (now (sessions .exit))) (now (out .exit))
-        ≡ acting (beside L (now (devices .entry)) (now (binds .entry)) (now (groups .entry)) (now (members .entry)) (now (sessions .entry))) source command
-        (now (payload .entry)) (now (out .entry))) ⌝ }
-{
-    match command {
-        Command::AddBind => {
-            let code = bind_commands::add_bind(devices, binds, groups, payload);
-            changing::write_code(out, code)
-        }
-        Command::RemoveBinds(part) => {
-            let code = bind_commands::remove_binds(binds, part, payload);
-            changing::write_code(out, code)
-        }
-        Command::StartSession => sessions::start(binds, sessions, source, out),
-        Command::EndSession => {
-            let code = sessions::end(sessions, source);
-            changing::write_code(out, code)
-        }
-        Command::GetEntries(filter) => sessions::read(binds, sessions, source, filter, payload, out),
-        Command::CreateGroup => creating::create(groups, payload, out),
-        Command::DeleteGroup => {
-            let code = group_commands::delete_group(binds, groups, members, payload);
-            changing::write_code(out, code)
-        }
-        Command::AddToGroup => {
-            let code = group_commands::add_to_group(devices, groups, members, payload);
-            changing::write_code(out, code)
-        }
-        Command::RemoveFromGroup => {
-            let code = group_commands::remove_from_group(members, payload);
-            changing::write_code(out, code)
-        }
-        Command::GetGroupInfo => group_info::get_group_info(groups, members, payload, out),
-    }
-}
+ghost use Rattle.acting.specs.Acting.{Workable, performed};
+ghost use Rattle.commands.specs.Perform.{judging, touches};
 
 // Will the command change the binds, if it is granted?
 fn touches(binds: &[u8], command: Command, payload: &[u8]) -> bool
@@ -117,7 +67,7 @@ pub fn perform(
         return changing::write_code(out, Code::invalid_argument());
     }
     let touching = touches(binds, command, payload);
-    let n = act(
+    let n = acting::act(
         devices,
         binds,
         groups,

@@ -54,7 +54,11 @@ fn read_command(member: u8) -> Decoded
         rest,
     );
     let rest = command_or(member == Command::END_SESSION, Command::EndSession, rest);
-    command_or(member == Command::START_SESSION, Command::StartSession, rest)
+    command_or(
+        member == Command::START_SESSION,
+        Command::StartSession,
+        rest,
+    )
 }
 
 // .. and what changes them, in the same way.

@@ -1,6 +1,7 @@
 -- Laws of the loops over a table's used records: counted, passed over, written one after the other. What is left gives the whole.
 use native.Mathlib.Nat.{sub-zero, zero-mul, mul-le-mul-right}
-use Rattle.words.specs.Basics.{_≡_, refl, sym, ap, _∙_, Bool, true, false, cond, not, _&&_, List, [], _∷_, _++_, ℕ, zero, suc, _+_, _-_, _*_, _<_, _≤_, min, arith}
+use Rattle.words.specs.Basics.{_≡_, refl, sym, ap, _∙_, Bool, true, false, cond, not, _&&_, List, [], _∷_, _++_, ℕ, zero, suc, _+_, _-_, _*_, _<_, _≤_, min}
+use Rattle.words.specs.Basics.{arith}
 use Rattle.words.specs.Basics.{length, take, drop, sets, length-sets, length-take}
 use Rattle.rules.specs.Lists.{tick, keep}
 use Rattle.rules.specs.Octets.{over}
@@ -29,7 +30,8 @@ used-after r t n h = step (free? r) n h
 kept-more : (q : Rec → Bool) (r : Rec) (t : List Rec) → keep q (used (r ∷ t)) ≡ cond (passes q r) (r ∷ keep q (used t)) (keep q (used t))
 unfolding used keep passes
 kept-more q r t =
-    elim (free? r) as (λ b. keep q (cond (not b) (r ∷ used t) (used t)) ≡ cond (not b && q r) (r ∷ keep q (used t)) (keep q (used t))) [ true ↦ refl | false ↦ refl ]
+    elim (free? r) as (λ b. keep q (cond (not b) (r ∷ used t) (used t)) ≡ cond (not b && q r) (r ∷ keep q (used t)) (keep q (used t)))
+    [ true ↦ refl | false ↦ refl ]
 
 -- Counting
 
@@ -46,7 +48,8 @@ module _ {k : ℕ} {t : List ℕ} where
       → Counting k t (at + k) (count + here)
   counting-more {at} {count} {here} c h l e =
       let n = used-more (take k (drop at t)) (records k (drop (at + k) t)) in
-      let r : count + length (used (take k (drop at t) ∷ records k (drop (at + k) t))) ≡ length (used (records k t)) = rw (records-at k at t h l) at (c .rest) in
+      let r : count + length (used (take k (drop at t) ∷ records k (drop (at + k) t))) ≡ length (used (records k t)) =
+      rw (records-at k at t h l) at (c .rest) in
       record { within = l; few = omega (arith, c .few, e, at-most-one (free? (take k (drop at t)))); rest = omega (arith, n, r, e) }
     where
       at-most-one : (b : Bool) → cond b 0 1 ≤ 1
@@ -71,7 +74,10 @@ module _ {k : ℕ} {t : List ℕ} {index : ℕ} where
       → here ≤ before → Passing k t index (at + k) (before - here)
   passing-more {at} {before} {here} c h l e n =
       let p : cond (free? (take k (drop at t))) 0 1 ≤ before = omega (arith, e, n) in
-      record { within = l; rest = rw e (sym (used-after (take k (drop at t)) (records k (drop (at + k) t)) before p) ∙ rw (records-at k at t h l) at (c .rest)) }
+      record {
+        within = l;
+        rest = rw e (sym (used-after (take k (drop at t)) (records k (drop (at + k) t)) before p) ∙ rw (records-at k at t h l) at (c .rest));
+      }
 
   -- the one at `at` is in use, and the next
   pub passing-hit : {at before here : ℕ} → Passing k t index at before → here ≡ cond (free? (take k (drop at t))) 0 1 → before < here

@@ -65,7 +65,14 @@ fn place_of(binds: &[u8], index: usize) -> usize
 }
 
 // Writes the bind at `at` behind `count` others, if it has `want` from its place `from` on: how many there then are.
-fn write_entry(binds: &[u8], at: usize, from: usize, want: &[u8], count: usize, out: &mut [u8]) -> usize
+fn write_entry(
+    binds: &[u8],
+    at: usize,
+    from: usize,
+    want: &[u8],
+    count: usize,
+    out: &mut [u8],
+) -> usize
     requires { ⌜ (at + size Binds ≤ length (now binds)) × (from + length (now want) ≤ size Binds)
         × (count * size Binds + size Binds ≤ length (now out)) × (count ≤ mostEntries) ⌝ }
     ensures { λ r. ⌜ (r ≡ tick (passes (matches from (now (want .entry))) (take (size Binds) (drop at (now (binds .entry))))) count)
@@ -98,7 +105,14 @@ fn write_entries(binds: &[u8], from: usize, want: &[u8], most: usize, out: &mut 
 }
 
 // The reply to a read, from this index on: 0x00, the number of entries, the entries.
-fn write_listing(binds: &[u8], index: usize, most: usize, from: usize, want: &[u8], out: &mut [u8]) -> usize
+fn write_listing(
+    binds: &[u8],
+    index: usize,
+    most: usize,
+    from: usize,
+    want: &[u8],
+    out: &mut [u8],
+) -> usize
     requires { ⌜ (from + length (now want) ≤ size Binds) × (most ≤ mostEntries) × (longest ≤ headerLength + length (now out)) ⌝ }
     ensures { λ r. ⌜ (r ≡ length (ok .0 ∷ listing (chosen index most (matches from (now (want .entry))) (table Binds (now (binds .entry))))))
         × (now (out .exit)

@@ -11,7 +11,8 @@ use Rattle.rules.specs.Recipients.{recipients}
 use Rattle.rules.specs.Commands.{judge, done, replyPayload}
 use Rattle.rules.specs.Calls.{answer, answered, handled, forwarded}
 use Rattle.messages.proofs.Replies.{reply-behind, within-room}
-use Rattle.commands.specs.Perform.{Performed, performed, performing, judging}
+use Rattle.acting.specs.Acting.{Performed, performed, performing}
+use Rattle.commands.specs.Perform.{judging}
 use Rattle.units.specs.Listing.{Listing}
 
 -- Serving

@@ -25,7 +25,8 @@ pub fn serve(
 ) -> Outcome
     requires { ⌜ Servable (now devices) (now binds) (now groups) (now members) (now sessions) f (now reply) ⌝ }
     ensures { λ r. ⌜ ((L : Lent)
-        → answer r (beside L (now (devices .entry)) (now (binds .exit)) (now (groups .exit)) (now (members .exit)) (now (sessions .exit))) (now (reply .exit)) []
+        → answer r (beside L (now (devices .entry)) (now (binds .exit)) (now (groups .exit)) (now (members .exit)) (now (sessions .exit)))
+        (now (reply .exit)) []
         ≡ handled (beside L (now (devices .entry)) (now (binds .entry)) (now (groups .entry)) (now (members .entry)) (now (sessions .entry))) command f
         (now (payload .entry)) (now (reply .entry)) []) ⌝ }
 {

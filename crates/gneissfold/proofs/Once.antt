@@ -32,8 +32,8 @@ message-tells κs a r s = messageTold r (now (s .1 .1 .1 .1 .1 .1 .1 .1 .0))
     (lent (now (s .0)) (now (s .1 .0)) (now (s .1 .1 .0)) (now (s .1 .1 .1 .0)) (now (s .1 .1 .1 .1 .0)))
     (now (s .1 .1 .1 .1 .1 .1 .0)) (now (s .1 .1 .1 .1 .1 .1 .1 .0))
 
-abbrev pub admit-tells : (κs : Lfts (gneissfold_admit.signature .lifetimes)) (a : World.ArgsD gneissfold_admit.signature κs) (r : World.ResD gneissfold_admit.signature κs)
-    (s : Clauses.AtExit (K.endedOf _ admit-kinds.ps admit-kinds.r) κs) → HostTold
+abbrev pub admit-tells : (κs : Lfts (gneissfold_admit.signature .lifetimes)) (a : World.ArgsD gneissfold_admit.signature κs)
+    (r : World.ResD gneissfold_admit.signature κs) (s : Clauses.AtExit (K.endedOf _ admit-kinds.ps admit-kinds.r) κs) → HostTold
 admit-tells κs a r s = hostTold r (lent (now (s .0)) (now (a .1 .0)) (now (a .1 .1 .0)) (now (a .1 .1 .1 .0)) (now (a .1 .1 .1 .1 .0)))
 
 abbrev pub release-tells : (κs : Lfts (gneissfold_release.signature .lifetimes)) (a : World.ArgsD gneissfold_release.signature κs)
@@ -52,18 +52,18 @@ abbrev read-tells : (κs : Lfts 2) (a : World.ArgsD gneissfold_read.signature κ
     (s : Clauses.AtExit (K.endedOf 2 read-kinds.ps read-kinds.r) κs) → ReadTold
 read-tells κs a r s = readTold r (now (s .1 .0))
 
-pub message-once : (κs : Lfts (gneissfold_message.signature .lifetimes)) (a : World.ArgsD gneissfold_message.signature κs) (r r' : World.ResD gneissfold_message.signature κs)
-    (s s' : Clauses.AtExit (K.endedOf _ message-kinds.ps message-kinds.r) κs)
+pub message-once : (κs : Lfts (gneissfold_message.signature .lifetimes)) (a : World.ArgsD gneissfold_message.signature κs)
+    (r r' : World.ResD gneissfold_message.signature κs) (s s' : Clauses.AtExit (K.endedOf _ message-kinds.ps message-kinds.r) κs)
     → message-reads.Post κs a r s → message-reads.Post κs a r' s' → message-tells κs a r s ≡ message-tells κs a r' s'
 message-once κs a r r' s s' p q = p ∙ sym q
 
-pub admit-once : (κs : Lfts (gneissfold_admit.signature .lifetimes)) (a : World.ArgsD gneissfold_admit.signature κs) (r r' : World.ResD gneissfold_admit.signature κs)
-    (s s' : Clauses.AtExit (K.endedOf _ admit-kinds.ps admit-kinds.r) κs)
+pub admit-once : (κs : Lfts (gneissfold_admit.signature .lifetimes)) (a : World.ArgsD gneissfold_admit.signature κs)
+    (r r' : World.ResD gneissfold_admit.signature κs) (s s' : Clauses.AtExit (K.endedOf _ admit-kinds.ps admit-kinds.r) κs)
     → admit-reads.Post κs a r s → admit-reads.Post κs a r' s' → admit-tells κs a r s ≡ admit-tells κs a r' s'
 admit-once κs a r r' s s' p q = p ∙ sym q
 
-pub release-once : (κs : Lfts (gneissfold_release.signature .lifetimes)) (a : World.ArgsD gneissfold_release.signature κs) (r r' : World.ResD gneissfold_release.signature κs)
-    (s s' : Clauses.AtExit (K.endedOf _ release-kinds.ps release-kinds.r) κs)
+pub release-once : (κs : Lfts (gneissfold_release.signature .lifetimes)) (a : World.ArgsD gneissfold_release.signature κs)
+    (r r' : World.ResD gneissfold_release.signature κs) (s s' : Clauses.AtExit (K.endedOf _ release-kinds.ps release-kinds.r) κs)
     → release-reads.Post κs a r s → release-reads.Post κs a r' s' → release-tells κs a r s ≡ release-tells κs a r' s'
 release-once κs a r r' s s' p q = p ∙ sym q
 

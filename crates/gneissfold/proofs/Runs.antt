@@ -51,13 +51,15 @@ module _ (κs : Lfts (gneissfold_release.signature .lifetimes)) (a : World.ArgsD
 -- A call that was made on the tables L and met its contract, with its result r and the state at exit s: the call, what its caller reads, what it left
 pub data Meets (L : Lent) : Call → Said → Lent → Type 0 where
   by-message : (κs : Lfts (gneissfold_message.signature .lifetimes)) (a : World.ArgsD gneissfold_message.signature κs)
-      (r : World.ResD gneissfold_message.signature κs) (s : Clauses.AtExit (K.endedOf _ message-kinds.ps message-kinds.r) κs) → message-lent κs a ≡ L → message-reads.Post κs a r s
+      (r : World.ResD gneissfold_message.signature κs) (s : Clauses.AtExit (K.endedOf _ message-kinds.ps message-kinds.r) κs)
+      → message-lent κs a ≡ L → message-reads.Post κs a r s
       → Meets L (message-call κs a) (saidBy (answerOf (message-tells κs a r s))) (message-tells κs a r s .tables)
   by-admit : (κs : Lfts (gneissfold_admit.signature .lifetimes)) (a : World.ArgsD gneissfold_admit.signature κs) (r : World.ResD gneissfold_admit.signature κs)
       (s : Clauses.AtExit (K.endedOf _ admit-kinds.ps admit-kinds.r) κs) → admit-lent κs a ≡ L → admit-reads.Post κs a r s
       → Meets L (admit-call κs a) (saidByHost (hostAnswerOf (admit-tells κs a r s))) (admit-tells κs a r s .tables)
   by-release : (κs : Lfts (gneissfold_release.signature .lifetimes)) (a : World.ArgsD gneissfold_release.signature κs)
-      (r : World.ResD gneissfold_release.signature κs) (s : Clauses.AtExit (K.endedOf _ release-kinds.ps release-kinds.r) κs) → release-lent κs a ≡ L → release-reads.Post κs a r s
+      (r : World.ResD gneissfold_release.signature κs) (s : Clauses.AtExit (K.endedOf _ release-kinds.ps release-kinds.r) κs)
+      → release-lent κs a ≡ L → release-reads.Post κs a r s
       → Meets L (release-call κs a) (saidByHost (hostAnswerOf (release-tells κs a r s))) (release-tells κs a r s .tables)
 
 -- the contracts say what the rules say

@@ -77,9 +77,17 @@ pub extern "C" fn gneissfold_release(
     address: u16,
 ) -> u8
     ensures { λ r. ⌜ hostTold r (lent (now (devices .exit)) (now (binds .exit)) (now (groups .entry)) (now (members .exit)) (now (sessions .exit)))
-        ≡ ofHost (release (lent (now (devices .entry)) (now (binds .entry)) (now (groups .entry)) (now (members .entry)) (now (sessions .entry))) (device address)) ⌝ }
+        ≡ ofHost (release (lent (now (devices .entry)) (now (binds .entry)) (now (groups .entry)) (now (members .entry)) (now (sessions .entry)))
+        (device address)) ⌝ }
 {
-    let outcome = hub::release(devices, binds, groups, members, sessions, DeviceAddress(address));
+    let outcome = hub::release(
+        devices,
+        binds,
+        groups,
+        members,
+        sessions,
+        DeviceAddress(address),
+    );
     outcome.number()
 }
 

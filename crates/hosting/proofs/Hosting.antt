@@ -1,8 +1,10 @@
 -- Laws of the host's calls: where a check fails, nothing changes; where none does, the octets written are the call's change.
-use Rattle.words.specs.Basics.{_≡_, refl, sym, ap, _∙_, Bool, true, false, cond, not, _||_, or-true, List, [], _∷_, ℕ, _%_, _<_, arith, length, not-true, eq-eqb, not-false, ne-eqb}
+use Rattle.words.specs.Basics.{_≡_, refl, sym, ap, _∙_, Bool, true, false, cond, not, _||_, or-true, List, [], _∷_, ℕ, _%_, _<_, arith, length, not-true}
+use Rattle.words.specs.Basics.{eq-eqb, not-false, ne-eqb}
 use Rattle.words.specs.Outcomes.{numberOf}
 use Rattle.words.specs.declared.BindPart.the-variants.{Source, Destination}
-use Rattle.rules.specs.Types.{DeviceAddress, Kind, Devices, Binds, Members, Sessions, Outcome, Done, Unsound, OutOfRange, AlreadyAdmitted, NoFreeRecord, NotAdmitted}
+use Rattle.rules.specs.Types.{DeviceAddress, Kind, Devices, Binds, Members, Sessions, Outcome, Done, Unsound, OutOfRange, AlreadyAdmitted, NoFreeRecord}
+use Rattle.rules.specs.Types.{NotAdmitted}
 use Rattle.rules.specs.Lists.{ask, any}
 use Rattle.rules.specs.Octets.{octets}
 use Rattle.rules.specs.Tables.{Rec, records, used, someFree, matches, addressed, clear, store, wipe, written}

@@ -63,9 +63,9 @@ pub fn admit(
 fn is_named(binds: &[u8], device: DeviceAddress) -> bool
     ensures { λ r. ⌜ r ≡ any (namesDevice device) (used (table Binds (now (binds .entry)))) ⌝ }
 {
-    let named = layouts::address_octets(device.0);
-    let source = records::has(binds, BIND, bind_records::SOURCE, &named);
-    let destination = records::has(binds, BIND, bind_records::DESTINATION, &named);
+    let wanted = layouts::address_octets(device.0);
+    let source = records::has(binds, BIND, bind_records::SOURCE, &wanted);
+    let destination = records::has(binds, BIND, bind_records::DESTINATION, &wanted);
     source | destination
 }
 

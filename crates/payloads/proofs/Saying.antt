@@ -1,6 +1,7 @@
 -- Payloads octet by octet.
 use lib.Seq.{take-append-seam}
-use Rattle.words.specs.Basics.{_≡_, refl, sym, ap, _∙_, Bool, true, false, cond, eqb, List, [], _∷_, _++_, ℕ, zero, suc, _+_, _*_, _%_, _<_, _≤_, arith, length, take, drop, getD, set}
+use Rattle.words.specs.Basics.{_≡_, refl, sym, ap, _∙_, Bool, true, false, cond, eqb, List, [], _∷_, _++_, ℕ, zero, suc, _+_, _*_, _%_, _<_, _≤_, arith, length}
+use Rattle.words.specs.Basics.{take, drop, getD, set}
 use Rattle.words.specs.Basics.{drop-of-length-le, drop-cons}
 use Rattle.rules.specs.Octets.{word, ignoreTop, over}
 use Rattle.rules.specs.Types.{BindPart, Source}

@@ -1,6 +1,7 @@
 -- One theory of the five filters (document 02, request 1: "The facts about matching are proved once over the five filters"): what a read gives are whole
 -- records, as many as fit behind the header, in table order, none twice. Proved of any choice of records, and then of each filter.
-use Rattle.words.specs.Basics.{_≡_, refl, sym, ap, _∙_, Bool, true, false, cond, not, _||_, List, [], _∷_, ℕ, zero, suc, _+_, _*_, _≤_, min, arith, length, take}
+use Rattle.words.specs.Basics.{_≡_, refl, sym, ap, _∙_, Bool, true, false, cond, not, _||_, List, [], _∷_, ℕ, zero, suc, _+_, _*_, _≤_, min, arith, length}
+use Rattle.words.specs.Basics.{take}
 use Rattle.words.specs.Basics.{drop, length-take, not-true}
 use Rattle.words.specs.Names.{headerLength, longest}
 use Rattle.rules.specs.Types.{Filter, Index, Part, Binds}

@@ -1,7 +1,8 @@
 -- The host calls: admit and release, where they do something, change the tables in order and as the history's entries say.
 use Rattle.words.specs.Basics.{_≡_, refl, _∙_, Bool, true, false, cond, not, _||_, List, ℕ, _<_, arith, eqb, not-true, eq-eqb}
 use Rattle.words.specs.Outcomes.{numberOf, valueOf}
-use Rattle.rules.specs.Types.{DeviceAddress, Devices, Binds, Members, Sessions, Outcome, Done, Unsound, OutOfRange, AlreadyAdmitted, NoFreeRecord, NotAdmitted}
+use Rattle.rules.specs.Types.{DeviceAddress, Devices, Binds, Members, Sessions, Outcome, Done, Unsound, OutOfRange, AlreadyAdmitted, NoFreeRecord}
+use Rattle.rules.specs.Types.{NotAdmitted}
 use Rattle.rules.specs.Lists.{ask, _&_}
 use Rattle.rules.specs.Octets.{octets}
 use Rattle.rules.specs.Tables.{Rec, used, someFree, addressed, none, wipe}

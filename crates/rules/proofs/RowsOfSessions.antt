@@ -113,7 +113,8 @@ closings =
     ∷ closes bindManagement 0x06 (run 3 0x00_05_01) five (house (a ++ b ++ gone ++ d ++ e))
     -- Delete Group, "where a bind to the group was there"
     ∷ closes groupManagement 0x02 (run 2 0x00_01) (house d) (holding devices (filled 48 []) (filled 48 (gone ++ gone ++ named 2 [])) (filled 20 []))
-    ∷ leaves groupManagement 0x02 (run 2 0x00_02) five (holding devices (filled 48 (a ++ b ++ c ++ d ++ e)) (filled 48 (named 1 (0x53 ∷ []))) members) (0x00 ∷ [])
+    ∷ leaves groupManagement 0x02 (run 2 0x00_02) five
+    (holding devices (filled 48 (a ++ b ++ c ++ d ++ e)) (filled 48 (named 1 (0x53 ∷ []))) members) (0x00 ∷ [])
     ∷ leaves groupManagement 0x02 (run 2 0x00_01) (house (a ++ e))
     (holding devices (filled 48 (a ++ e)) (filled 48 (gone ++ gone ++ named 2 [])) (filled 20 [])) (0x00 ∷ [])
     -- what changes no bind leaves all
@@ -140,7 +141,9 @@ closings =
 -- "a release closes that device's": all where a bind named it, else its own alone
 
 abbrev without-five : List ℕ → List ℕ → Lent
-without-five bs ss = with-sessions ss (holding (device-table 5 (D1 ++ D3 ++ D4)) (filled 48 bs) groups (filled 5 [] ++ run 5 0x00_01_00_04_02 ++ run 5 0x00_01_00_03_01 ++ filled 5 []))
+without-five bs ss =
+    with-sessions ss (holding (device-table 5 (D1 ++ D3 ++ D4)) (filled 48 bs) groups
+    (filled 5 [] ++ run 5 0x00_01_00_04_02 ++ run 5 0x00_01_00_03_01 ++ filled 5 []))
 
 abbrev five-with : List ℕ → List ℕ → Lent
 five-with bs ss = with-sessions ss (house bs)
@@ -167,8 +170,8 @@ released-sessions =
 abbrev unsound : List Lent
 unsound =
     map (λ ss. with-sessions ss plain)
-    ((S3 ++ S3) ∷ (S3 ++ none ++ S3) ∷ (S0 ++ S0) ∷ run 2 0x00_02 ∷ run 2 0x80_03 ∷ run 2 0x7F_FF ∷ run 2 0xFF_00 ∷ run 2 0x00_FF ∷ (S3 ++ 0xFF ∷ []) ∷ (0x00 ∷ [])
-    ∷ filled 18 S3 ∷ filled 18 [] ∷ [])
+    ((S3 ++ S3) ∷ (S3 ++ none ++ S3) ∷ (S0 ++ S0) ∷ run 2 0x00_02 ∷ run 2 0x80_03 ∷ run 2 0x7F_FF ∷ run 2 0xFF_00 ∷ run 2 0x00_FF ∷ (S3 ++ 0xFF ∷ [])
+    ∷ (0x00 ∷ []) ∷ filled 18 S3 ∷ filled 18 [] ∷ [])
 
 abbrev pub unsound-sessions : List (Row Sent Answer)
 unsound-sessions = map (λ L. row (sent L (request three-one curtains)) (unchanged L 16)) unsound

@@ -8,7 +8,8 @@ use Rattle.rules.specs.Lists.{all}
 use Rattle.rules.specs.Frame.{Lent}
 use Rattle.rules.specs.Host.{HostAnswer, admit, release}
 use Rattle.rules.specs.Calls.{Answer, answer, message}
-use Rattle.rules.specs.History.{Call, sends, admits, releases, Said, said, left, after, Event, history, octetsOnly, granted, standing, memberCount, freeTables}
+use Rattle.rules.specs.History.{Call, sends, admits, releases, Said, said, left, after, Event, history, octetsOnly, granted, standing, memberCount}
+use Rattle.rules.specs.History.{freeTables}
 use Rattle.rules.specs.Sheet.{bindCount, entriesRead}
 use Rattle.rules.specs.Seen.{Contract, saidBy, saidByHost, Seen, begins, goes-on, calls, SeenHolds, SeenReads}
 use Rattle.rules.proofs.Run.{same-room, held-run}

@@ -8,7 +8,8 @@ use Rattle.rules.specs.Lists.{any, firstOf, ask}
 use Rattle.rules.specs.Octets.{octet, octets}
 use Rattle.rules.specs.Units.{unitOctets, ordered}
 use Rattle.rules.specs.Tables.{Rec, used, someFree, matches, addressed, store, wipe}
-use Rattle.rules.specs.Layout.{size, addressLength, partIs, partLength, longestName, nameLength, groupName, groupRecord, toThisGroup, inGroup, sessionRecord}
+use Rattle.rules.specs.Layout.{size, addressLength, partIs, partLength, longestName, nameLength, groupName, groupRecord, toThisGroup, inGroup}
+use Rattle.rules.specs.Layout.{sessionRecord}
 use Rattle.rules.specs.Frame.{Tables, Effect, nothing, only, also}
 use Rattle.rules.specs.Exists.{hasRights, groupExists}
 use Rattle.rules.specs.Sound.{bindFits, memberFits}

@@ -1,7 +1,8 @@
 -- The two host calls (document 01, Outcomes): admit a device with its rights and its set of units, and release a device.
 use Rattle.words.specs.Basics.{Bool, cond, not, _||_, List, ℕ, eqb}
 use Rattle.words.specs.Outcomes.{numberOf}
-use Rattle.rules.specs.Types.{DeviceAddress, Devices, Binds, Members, Sessions, Outcome, Done, Unsound, OutOfRange, AlreadyAdmitted, NoFreeRecord, NotAdmitted}
+use Rattle.rules.specs.Types.{DeviceAddress, Devices, Binds, Members, Sessions, Outcome, Done, Unsound, OutOfRange, AlreadyAdmitted, NoFreeRecord}
+use Rattle.rules.specs.Types.{NotAdmitted}
 use Rattle.rules.specs.Lists.{ask}
 use Rattle.rules.specs.Tables.{Rec, someFree, addressed, store, wipe}
 use Rattle.rules.specs.Layout.{deviceRecord, fromDevice, toDevice, ofDevice}

@@ -1,5 +1,5 @@
--- The records (document 01, Tables; a device's: document 02, request 2; a session's: request 1): how many octets each has, how many there may be, where its fields stand, and how
--- it is built from them. No other file knows the place of a field, but for an old device's, which stand in `Carry`.
+-- The records (document 01, Tables; a device's: document 02, request 2; a session's: request 1): how many octets each has, how many there may be, where
+-- its fields stand, and how it is built from them. No other file knows the place of a field, but for an old device's, which stand in `Carry`.
 use Rattle.words.specs.Basics.{Bool, List, [], _∷_, _++_, ℕ, zero, suc, _+_, _-_, _*_, _/_, _%_, _^_, min, eqb, length, take, drop, replicate}
 use Rattle.words.specs.Names.{device, group, flagSet, anyDevice, anyUnit, anyInterface}
 use Rattle.words.specs.declared.BindPart.the-variants.{Whole, Source, SourceUnit, Destination, DestinationUnit}

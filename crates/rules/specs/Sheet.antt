@@ -1,5 +1,5 @@
--- What closes a read session, over all calls; and what is read back is the sheet: the fitter compares the binds that a read session gives with the binds that stand by history. Like condition 3 it is
--- read from calls and answers alone (docs/HISTORY.md).
+-- What closes a read session, over all calls; and what is read back is the sheet: the fitter compares the binds that a read gives with the binds that
+-- stand by history. Like condition 3 that is read from calls and answers alone (docs/HISTORY.md).
 use Rattle.words.specs.Basics.{_≡_, Bool, true, false, List, [], _∷_, _++_, ℕ, _*_, min, length, take, drop}
 use Rattle.words.specs.Names.{headerLength}
 use Rattle.words.specs.declared.Decoded.the-variants.{Is}

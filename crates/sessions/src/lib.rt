@@ -78,7 +78,8 @@ pub fn read(
         ≡ over (reading (table Binds (now (binds .entry))) (table Sessions (now (sessions .entry))) device filter (now (payload .entry)))
         (now (out .entry))) ⌝ }
 {
-    if !in_session(sessions, device) {
+    let open = in_session(sessions, device);
+    if !open {
         return changing::write_code(out, Code::no_read_session());
     }
     entries::get_entries(binds, filter, payload, out)

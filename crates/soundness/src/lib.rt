@@ -86,13 +86,7 @@ fn table_sound(kind: Kind, given: &[u8], devices: &[u8], groups: &[u8]) -> bool
 }
 
 // Are the tables sound? A call on tables that are not changes nothing (document 01, Outcomes, 16).
-pub fn sound(
-    devices: &[u8],
-    binds: &[u8],
-    groups: &[u8],
-    members: &[u8],
-    sessions: &[u8],
-) -> bool
+pub fn sound(devices: &[u8], binds: &[u8], groups: &[u8], members: &[u8], sessions: &[u8]) -> bool
     ensures { λ r. ⌜ r ≡ sound (lent (now (devices .entry)) (now (binds .entry)) (now (groups .entry)) (now (members .entry)) (now (sessions .entry))) ⌝ }
 {
     let d = table_sound(Kind::Devices, devices, devices, groups);

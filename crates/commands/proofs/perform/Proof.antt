@@ -3,8 +3,8 @@ use Rattle.words.specs.Basics.{_∙_, List, ℕ, arith, now, not-true, not-fals
 use Rattle.words.specs.Names.{notAuthorized, invalidArgument}
 use Rattle.rules.specs.Frame.{Lent, beside, also}
 use Rattle.rules.proofs.Frames.{replaced}
-use Rattle.commands.proofs.Sizes.{whole-sessions}
-use Rattle.commands.proofs.Performing.{refused, without-rights, wrong-length, behind-checks}
+use Rattle.acting.proofs.Sizes.{whole-sessions}
+use Rattle.commands.proofs.Checks.{refused, without-rights, wrong-length, behind-checks}
 use Rattle.commands.proofs.Closing.{closes-too}
 use Rattle.commands.proofs.perform.Statement.{statement}
 use Rattle.commands.proofs.perform.Tie as tie
@@ -20,16 +20,16 @@ payload start = now (start .args .payload)
 -- the way back: from the rights asked to the start, from the command to the length asked, from sessions closed to the command
 
 abbrev asked : tie.After-rights-fit → tie.Start
-asked r = r .before .before .before .before .before .before .before .before .before
+asked r = search r
 
 abbrev checked : tie.After-touches → tie.After-rights-fit
 checked t = t .before .before .before .before .before
 
 abbrev acted : tie.After-act → tie.After-touches
-acted a = a .before .before .before .before .before .before
+acted a = search a
 
 abbrev closed : tie.After-close-all → tie.After-act
-closed z = z .before .before .before .before .before .before .before .before .before .before .before .before .before .before
+closed z = search z
 
 returns : tie.Need-returns
 returns c = λ L.
@@ -52,8 +52,8 @@ returns-2 c = λ L.
     let start = asked r in
     let d = r .before .demands .ensures in
     let judged =
-    wrong-length (tables L start) (start .args .source) (start .args .command) (payload start) (d .0) (r .rights-fit .ensures) (not-false _ (i .if1 .left)) (d .1)
-    (j .if2 .taken) in
+    wrong-length (tables L start) (start .args .source) (start .args .command) (payload start) (d .0) (r .rights-fit .ensures)
+    (not-false _ (i .if1 .left)) (d .1) (j .if2 .taken) in
     rw (w .write-code2 .ensures .0, w .write-code2 .ensures .1, w .before .invalid-argument .ensures, judged)
     (refused (tables L start) (start .args .source) (start .args .command) (payload start) _ invalidArgument (λ z. omega arith))
 
@@ -68,7 +68,7 @@ act-requires c κs =
 
 close-all-requires : tie.Need-close-all-requires
 close-all-requires c κs =
-    let a = c .before .before .before .before .before .before .before .before .before .before .before .before .before in
+    let a : tie.After-act = search c in
     rw (a .act .kept .1 .1 .1 .1 .0) (whole-sessions _ _ _ _ _ (asked (checked (acted a)) .pre .0))
 
 returns-3 : tie.Need-returns-3
@@ -82,9 +82,10 @@ returns-3 c = λ L.
     let d = r .before .demands .ensures in
     let i = t .before .before .before .before in
     let judged =
-    behind-checks (tables L start) (start .args .source) (start .args .command) (payload start) (d .0) (r .rights-fit .ensures) (not-false _ (i .if1 .left)) (d .1)
-    (t .before .before .if2 .left) in
-    closes-too (tables L start) (start .args .source) (start .args .command) (payload start) _ judged (t .touches .ensures) (a .act .ensures L) (z .close-all .ensures)
+    behind-checks (tables L start) (start .args .source) (start .args .command) (payload start) (d .0) (r .rights-fit .ensures)
+    (not-false _ (i .if1 .left)) (d .1) (t .before .before .if2 .left) in
+    closes-too (tables L start) (start .args .source) (start .args .command) (payload start) _ judged (t .touches .ensures) (a .act .ensures L)
+    (z .close-all .ensures)
 
 pub perform-spec : {M : Type 1} → statement M
 perform-spec =

@@ -2,7 +2,7 @@
 use Rattle.words.specs.Basics.{refl, now, needs}
 use Rattle.rules.specs.Types.{DeleteGroup}
 use Rattle.commands.specs.Perform.{touches}
-use Rattle.commands.proofs.Sizes.{asked-length}
+use Rattle.acting.proofs.Sizes.{asked-length}
 use Rattle.commands.proofs.touches.Statement.{statement}
 use Rattle.commands.proofs.touches.Tie as tie
 

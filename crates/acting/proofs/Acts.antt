@@ -1,4 +1,4 @@
--- Laws of a command whole: what a check that fails leaves, and what a handler's answer makes of the tables and the reply.
+-- Laws of a command's own part: what a handler's answer makes of the tables and the reply.
 use Rattle.words.specs.Basics.{_≡_, refl, sym, ap, _∙_, Bool, true, false, cond, List, [], _∷_, ℕ, eqb, length, eq-eqb, ne-eqb, needs}
 use Rattle.words.specs.Names.{ok, notAuthorized, invalidArgument}
 use Rattle.rules.specs.Types.{DeviceAddress, Code, Command, StartSession, GetEntries, Filter, CreateGroup, DeleteGroup, GetGroupInfo, Kind, Devices, Binds}
@@ -18,8 +18,9 @@ use Rattle.creating.specs.Creating.{Made, made, making}
 use Rattle.group_commands.specs.Grouping.{Deleted, deleted, deleting}
 use Rattle.group_info.specs.Informing.{informing}
 use Rattle.sessions.specs.Reading.{opened, Started, started, starting, reading}
-use Rattle.commands.specs.Perform.{performed, performing, acting}
-use Rattle.commands.proofs.Sizes.{asked-length, whole-binds, whole-groups, whole-members, whole-sessions, within-binds, within-groups, within-members, named-groups, some-room}
+use Rattle.acting.specs.Acting.{performed, performing, acting}
+use Rattle.acting.proofs.Sizes.{asked-length, whole-binds, whole-groups, whole-members, whole-sessions, within-binds, within-groups, within-members}
+use Rattle.acting.proofs.Sizes.{named-groups, some-room}
 
 -- A code, and what it leaves
 
@@ -31,32 +32,6 @@ changed-by L c x = step (eqb (c .0) (ok .0))
     step : (b : Bool) → changed (cond b x nothing) L ≡ cond b (changed x L) L
     step true = refl
     step false = changed-nothing L
-
--- a code other than 0x00 is the whole reply, and the tables stay
-pub refused : (L : Lent) (s : DeviceAddress) (k : Command) (p out : List ℕ) (c : Code) → (c .0 ≡ ok .0 → ⊥)
-    → performed 1 L (over (c .0 ∷ []) out) ≡ performing L (done (tables L) s k p c) k p c out
-unfolding performing replyPayload done onOk
-refused L s k p out c n = rw (ne-eqb (c .0) (ok .0) n, changed-nothing L)
-
--- The checks before a command's own
-
-module _ (L : Lent) (s : DeviceAddress) (k : Command) (p : List ℕ) {rights : Bool} (e : rights ≡ row k .rights) where
-  rights-are : {b : Bool} → b ≡ cond rights (hasRights (tables L Devices) s) true → rightsFit (tables L Devices) s k ≡ b
-  unfolding rightsFit
-  rights-are h = rw (← e) (sym h)
-
-  pub without-rights : {b : Bool} → b ≡ cond rights (hasRights (tables L Devices) s) true → b ≡ false → judge (tables L) s k p ≡ notAuthorized
-  unfolding judge
-  without-rights h f = ask-fail _ _ (rights-are h ∙ f)
-
-  module _ {b : Bool} (h : b ≡ cond rights (hasRights (tables L Devices) s) true) (t : b ≡ true) {n : ℕ} (l : n ≡ row k .length p) where
-    pub wrong-length : (length p ≡ n → ⊥) → judge (tables L) s k p ≡ invalidArgument
-    unfolding judge payloadFits
-    wrong-length z = ask-pass _ _ (rights-are h ∙ t) ∙ ask-fail _ _ (ne-eqb (length p) (row k .length p) (λ y. z (y ∙ sym l)))
-
-    pub behind-checks : length p ≡ n → judge (tables L) s k p ≡ row k .verdict (tables L) s p
-    unfolding judge payloadFits
-    behind-checks z = ask-pass _ _ (rights-are h ∙ t) ∙ ask-pass _ _ (eq-eqb (length p) (row k .length p) (z ∙ l))
 
 -- A handler's answer
 

@@ -10,7 +10,7 @@ use Rattle.rules.specs.Sound.{sound, wholeRecords, soundTable, fits, groupFits}
 use Rattle.rules.specs.Commands.{row}
 use Rattle.rules.proofs.Lists.{split}
 use Rattle.rules.proofs.Kept.{sound-at, whole-at, whole-length}
-use Rattle.commands.specs.Perform.{Workable}
+use Rattle.acting.specs.Acting.{Workable}
 
 pub record Sizes (L : Lent) : Type 0 where
   pub whole : (k : Kind) → length (lentOf k L) % size k ≡ 0
