@@ -1,17 +1,15 @@
 -- Laws of a command's own part: what a handler's answer makes of the tables and the reply.
-use Rattle.words.specs.Basics.{_≡_, refl, sym, ap, _∙_, Bool, true, false, cond, List, [], _∷_, ℕ, eqb, length, eq-eqb, ne-eqb, needs}
-use Rattle.words.specs.Names.{ok, notAuthorized, invalidArgument}
-use Rattle.rules.specs.Types.{DeviceAddress, Code, Command, StartSession, GetEntries, Filter, CreateGroup, DeleteGroup, GetGroupInfo, Kind, Devices, Binds}
+use Rattle.words.specs.Basics.{_≡_, refl, sym, ap, _∙_, Bool, true, false, cond, List, [], _∷_, ℕ, eqb, length, needs}
+use Rattle.words.specs.Names.{ok}
+use Rattle.rules.specs.Types.{DeviceAddress, Code, Command, StartSession, GetEntries, Filter, CreateGroup, DeleteGroup, GetGroupInfo, Kind, Binds}
 use Rattle.rules.specs.Types.{Groups, Members, Sessions}
 use Rattle.rules.specs.Octets.{over}
 use Rattle.rules.specs.Tables.{Change, written}
 use Rattle.rules.specs.Layout.{size}
 use Rattle.rules.specs.Frame.{Lent, lentOf, tables, also, Effect, nothing, only, changed}
-use Rattle.rules.specs.Exists.{hasRights}
 use Rattle.rules.specs.Payloads.{groupNamed}
 use Rattle.rules.specs.Sessions.{inSession}
-use Rattle.rules.specs.Commands.{row, rightsFit, payloadFits, judge, onOk, done, replyPayload}
-use Rattle.rules.proofs.Lists.{ask-pass, ask-fail}
+use Rattle.rules.specs.Commands.{row, onOk, replyPayload}
 use Rattle.rules.proofs.Frames.{changed-nothing, replaced, changed-only, replaced-same}
 use Rattle.changing.specs.Changing.{Coded, coded, coding}
 use Rattle.creating.specs.Creating.{Made, made, making}

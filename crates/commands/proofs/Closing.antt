@@ -1,16 +1,16 @@
 -- Laws of the sessions that a command closes: what the command's own part leaves, and sessions closed where it changed the binds, is the command whole.
-use Rattle.words.specs.Basics.{_≡_, refl, sym, ap, _∙_, Bool, true, false, cond, _&&_, false≢true, List, [], _∷_, _++_, ℕ, eqb, getD, eqb-true}
+use Rattle.words.specs.Basics.{_≡_, refl, sym, ap, _∙_, Bool, true, false, cond, _&&_, false≢true, List, ℕ, eqb, getD, eqb-true}
 use Rattle.words.specs.Names.{code, ok}
 use Rattle.rules.specs.Types.{DeviceAddress, Code, Command, AddBind, RemoveBinds, StartSession, EndSession, GetEntries, CreateGroup, DeleteGroup, AddToGroup}
 use Rattle.rules.specs.Types.{RemoveFromGroup, GetGroupInfo, Binds, Sessions}
 use Rattle.rules.specs.Octets.{over}
-use Rattle.rules.specs.Tables.{Change, none, store, wipe, written}
+use Rattle.rules.specs.Tables.{none, store, wipe, written}
 use Rattle.rules.specs.Layout.{size, sessionRecord}
-use Rattle.rules.specs.Frame.{Lent, lentOf, tables, Tables, also, Effect, nothing, only, changed}
+use Rattle.rules.specs.Frame.{Lent, tables, Tables, also, Effect, nothing, only, changed}
 use Rattle.rules.specs.Sessions.{inSession, alters, closing}
 use Rattle.rules.specs.Commands.{removal, row, judge, onOk, done, replyPayload}
 use Rattle.rules.proofs.Lists.{and-true, and-false}
-use Rattle.rules.proofs.Frames.{changed-nothing, replaced, replaced-same}
+use Rattle.rules.proofs.Frames.{replaced, replaced-same}
 use Rattle.rules.proofs.Granted.{pass, invalid}
 use Rattle.acting.specs.Acting.{Performed, performed, performing, acting}
 use Rattle.commands.specs.Perform.{judging, touches}

@@ -1,8 +1,8 @@
 -- Laws of the loops over a table's used records: counted, passed over, written one after the other. What is left gives the whole.
 use native.Mathlib.Nat.{sub-zero, zero-mul, mul-le-mul-right}
-use Rattle.words.specs.Basics.{_≡_, refl, sym, ap, _∙_, Bool, true, false, cond, not, _&&_, List, [], _∷_, _++_, ℕ, zero, suc, _+_, _-_, _*_, _<_, _≤_, min}
+use Rattle.words.specs.Basics.{_≡_, refl, sym, ap, _∙_, Bool, true, false, cond, not, _&&_, List, [], _∷_, ℕ, zero, suc, _+_, _-_, _*_, _<_, _≤_}
 use Rattle.words.specs.Basics.{arith}
-use Rattle.words.specs.Basics.{length, take, drop, sets, length-sets, length-take}
+use Rattle.words.specs.Basics.{length, take, drop, sets, length-sets}
 use Rattle.rules.specs.Lists.{tick, keep}
 use Rattle.rules.specs.Octets.{over}
 use Rattle.rules.specs.Tables.{Rec, records, bytes, free?, used}

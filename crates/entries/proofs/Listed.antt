@@ -6,7 +6,7 @@ use Rattle.rules.specs.Types.{BindPart, Binds, Index, Part}
 use Rattle.rules.specs.Lists.{keep}
 use Rattle.rules.specs.Octets.{octet, word, over}
 use Rattle.rules.specs.Tables.{Rec, records, bytes, used, matches}
-use Rattle.rules.specs.Layout.{size, partStart, partIs, partLength}
+use Rattle.rules.specs.Layout.{size, partStart, partIs}
 use Rattle.rules.specs.Payloads.{wanted}
 use Rattle.rules.specs.Sessions.{mostEntries, chosen, entriesBy, listing}
 use Rattle.rules.proofs.Records.{each-records, length-bytes}

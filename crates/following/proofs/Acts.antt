@@ -6,8 +6,7 @@ use Rattle.rules.specs.Types.{Fields, Command, Done, Forwarded, Nobody}
 use Rattle.rules.specs.Octets.{over}
 use Rattle.rules.specs.Units.{unitOctets}
 use Rattle.rules.specs.Frame.{Lent, nothingLent, tables, changed}
-use Rattle.rules.specs.Message.{payload, header, answering}
-use Rattle.rules.specs.Recipients.{recipients}
+use Rattle.rules.specs.Message.{header, answering}
 use Rattle.rules.specs.Commands.{judge, done, replyPayload}
 use Rattle.rules.specs.Calls.{answer, answered, handled, forwarded}
 use Rattle.messages.proofs.Replies.{reply-behind, within-room}

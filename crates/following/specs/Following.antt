@@ -1,5 +1,5 @@
 -- What the acting parts of a message are handed.
-use Rattle.words.specs.Basics.{List, [], ℕ, _≤_, length}
+use Rattle.words.specs.Basics.{List, ℕ, _≤_, length}
 use Rattle.words.specs.Names.{longest}
 use Rattle.rules.specs.Types.{Fields}
 use Rattle.messages.specs.Ranges.{Ranged}

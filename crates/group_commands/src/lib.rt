@@ -10,7 +10,6 @@ ghost use Rattle.words.specs.Basics.{_≡_, _%_, _<_, length};
 ghost use Rattle.words.specs.Names.{invalidArgument};
 ghost use Rattle.rules.specs.Types.{Devices, Binds, Groups, Members};
 ghost use Rattle.rules.specs.Lists.{ask, any};
-ghost use Rattle.rules.specs.Octets.{octets};
 ghost use Rattle.rules.specs.Tables.{used, matches, addressed, store, wipe, written};
 ghost use Rattle.rules.specs.Layout.{addressLength, size, toThisGroup, inGroup};
 ghost use Rattle.rules.specs.Frame.{table};

@@ -1,27 +1,27 @@
 -- Closing, over all calls (document 02, request 1): a call that changes the bind table leaves no session open, one that does not leaves every other device's,
 -- and a session that is still open reads the binds that it was started on.
-use Rattle.words.specs.Basics.{_≡_, refl, sym, ap, _∙_, Bool, true, false, cond, not, _&&_, _||_, false≢true, List, [], _∷_, _++_, ℕ, _+_, _%_, _<_, _≤_, arith}
-use Rattle.words.specs.Basics.{eqb, length, eqb-true, not-true}
+use Rattle.words.specs.Basics.{_≡_, refl, sym, ap, _∙_, Bool, true, false, cond, not, _&&_, false≢true, List, [], _∷_, _++_, ℕ, _+_, _%_, arith}
+use Rattle.words.specs.Basics.{eqb, length, eqb-true}
 use Rattle.words.specs.Outcomes.{numberOf}
 use Rattle.rules.specs.Types.{DeviceAddress, Binds, Sessions, Outcome}
 use Rattle.rules.specs.Lists.{count, any, all, keep}
 use Rattle.rules.specs.Tables.{Rec, records, free?, blank, used, addressed, clear, Change, none, store, wipe, change, written}
 use Rattle.rules.specs.Layout.{size, sessionRecord}
 use Rattle.rules.specs.Frame.{Lent, tables, Tables, also, Effect, changed}
-use Rattle.rules.specs.Sessions.{inSession, alters, closing}
+use Rattle.rules.specs.Sessions.{inSession, alters}
 use Rattle.rules.specs.Host.{settled, taking, releasing, release}
-use Rattle.rules.specs.History.{Call, sends, admits, releases, said, left, after, history, octetsOnly, granted, entries, freeTables}
+use Rattle.rules.specs.History.{Call, sends, admits, releases, said, left, after, octetsOnly, granted, entries, freeTables}
 use Rattle.rules.specs.Sheet.{deviceOf, Closes, Starting, NoStart}
-use Rattle.rules.proofs.Lists.{and-parts, and-false, or-parts, all-append, any-weaken, any-same, any-and, count-some, count-two}
+use Rattle.rules.proofs.Lists.{and-parts, and-false, or-parts, any-weaken, any-same, any-and, count-some, count-two}
 use Rattle.rules.proofs.Words.{word-of, apart}
 use Rattle.rules.proofs.Records.{bytes-records}
 use Rattle.rules.proofs.Changes.{Storable, free-blank, count-put, count-clear, any-put, any-clear}
 use Rattle.rules.proofs.Frames.{lent-changed}
-use Rattle.rules.proofs.Kept.{Sane, Ok, table-changed, whole-at, whole-length}
+use Rattle.rules.proofs.Kept.{Sane, table-changed, whole-at, whole-length}
 use Rattle.rules.proofs.Stored.{session-device}
 use Rattle.rules.proofs.Granted.{closing-all}
 use Rattle.rules.proofs.Hosted.{Hosted, granting, refusing, hosted-release}
-use Rattle.rules.proofs.Shuts.{Own, untouched, opened, ended, Shuts}
+use Rattle.rules.proofs.Shuts.{Own, untouched, opened, ended}
 use Rattle.rules.proofs.Steps.{Step, step}
 use Rattle.rules.proofs.Run.{held-run}
 

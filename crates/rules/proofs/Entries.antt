@@ -1,16 +1,16 @@
 -- One theory of the five filters (document 02, request 1: "The facts about matching are proved once over the five filters"): what a read gives are whole
 -- records, as many as fit behind the header, in table order, none twice. Proved of any choice of records, and then of each filter.
-use Rattle.words.specs.Basics.{_≡_, refl, sym, ap, _∙_, Bool, true, false, cond, not, _||_, List, [], _∷_, ℕ, zero, suc, _+_, _*_, _≤_, min, arith, length}
+use Rattle.words.specs.Basics.{_≡_, refl, Bool, true, false, cond, not, _||_, List, [], _∷_, ℕ, zero, suc, _+_, _≤_, min, arith, length}
 use Rattle.words.specs.Basics.{take}
 use Rattle.words.specs.Basics.{drop, length-take, not-true}
 use Rattle.words.specs.Names.{headerLength, longest}
 use Rattle.rules.specs.Types.{Filter, Index, Part, Binds}
-use Rattle.rules.specs.Lists.{any, all, keep}
+use Rattle.rules.specs.Lists.{any, keep}
 use Rattle.rules.specs.Octets.{octet, word}
-use Rattle.rules.specs.Tables.{Rec, bytes, free?, used, matches}
+use Rattle.rules.specs.Tables.{Rec, free?, used, matches}
 use Rattle.rules.specs.Layout.{size}
 use Rattle.rules.specs.Sound.{distinct}
-use Rattle.rules.specs.Sessions.{entriesPlace, mostEntries, chosen, entriesBy, listing}
+use Rattle.rules.specs.Sessions.{mostEntries, chosen, entriesBy, listing}
 use Rattle.rules.proofs.Lists.{and-parts, or-parts}
 use Rattle.rules.proofs.Records.{Each, length-bytes}
 

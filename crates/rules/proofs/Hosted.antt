@@ -5,20 +5,20 @@ use Rattle.rules.specs.Types.{DeviceAddress, Devices, Binds, Members, Se
 use Rattle.rules.specs.Types.{NotAdmitted}
 use Rattle.rules.specs.Lists.{ask, _&_}
 use Rattle.rules.specs.Octets.{octets}
-use Rattle.rules.specs.Tables.{Rec, used, someFree, addressed, none, wipe}
+use Rattle.rules.specs.Tables.{Rec, someFree, addressed, none, wipe}
 use Rattle.rules.specs.Layout.{size, unitsLength, partIs, deviceRecord, bindSource, boundDevice, toGroup, memberDevice, fromDevice, toDevice}
 use Rattle.rules.specs.Layout.{sessionDevice}
 use Rattle.rules.specs.Frame.{Lent, tables, also, Effect, nothing}
 use Rattle.rules.specs.Exists.{admitted}
-use Rattle.rules.specs.Sound.{deviceInRange, deviceFits, fits, soundTable, sound}
+use Rattle.rules.specs.Sound.{deviceInRange, fits}
 use Rattle.rules.specs.Host.{settled, admitting, admission, admit, namesDevice, taking, releasing, release}
 use Rattle.rules.specs.History.{Entries, hasPage, admits, releases, entries}
-use Rattle.rules.proofs.Lists.{never, or-parts, split, join, any-with}
-use Rattle.rules.proofs.Words.{shaped, matches-word, addressed-word, word-of, to-device, apart}
+use Rattle.rules.proofs.Lists.{never, or-parts, join}
+use Rattle.rules.proofs.Words.{shaped, matches-word, addressed-word, to-device, apart}
 use Rattle.rules.proofs.Changes.{Storable, spares}
-use Rattle.rules.proofs.Kept.{sound-at, Sane, Ok, order-wipe, bind-kept, member-kept, session-kept}
+use Rattle.rules.proofs.Kept.{Sane, Ok, order-wipe, bind-kept, member-kept, session-kept}
 use Rattle.rules.proofs.Standing.{says-added, says-withdrawn}
-use Rattle.rules.proofs.Stored.{device-stored, device-meets, device-fields, device-high}
+use Rattle.rules.proofs.Stored.{device-stored, device-meets, device-fields}
 use Rattle.rules.proofs.Granted.{admitted-small, orders-only, orders-wipe, ok-adding, order-store, ok-closing, Told, told-nothing, told-also}
 use Rattle.rules.proofs.Granted.{told-apart, told-closing}
 

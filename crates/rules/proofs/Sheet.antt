@@ -1,23 +1,22 @@
 -- What is read back is the sheet: after any run, a granted Start counts the binds that stand by history, and a granted read gives those of them that it
 -- asks for, each once, as long as its session was not started anew.
 use lib.Seq.{take-at}
-use Rattle.words.specs.Basics.{_≡_, refl, sym, ap, _∙_, true, cond, List, [], _∷_, _++_, ℕ, suc, _+_, _*_, _≤_, min, arith, length, take, drop, eqb-true}
+use Rattle.words.specs.Basics.{_≡_, refl, sym, ap, _∙_, true, List, [], _∷_, _++_, ℕ, suc, _+_, _*_, _≤_, min, arith, length, take, drop, eqb-true}
 use Rattle.words.specs.Basics.{not, _&&_, take-all, drop-drop, drop-of-length-le, take-append-drop}
-use Rattle.words.specs.Names.{ok, headerLength}
+use Rattle.words.specs.Names.{ok}
 use Rattle.rules.specs.Types.{DeviceAddress, BindPart, StartSession, GetEntries, Filter, Index, Part, Binds, Sessions}
-use Rattle.rules.specs.Lists.{count, any, all, keep}
+use Rattle.rules.specs.Lists.{count, all, keep}
 use Rattle.rules.specs.Octets.{octet, word, octets, octetString}
 use Rattle.rules.specs.Tables.{Rec, bytes, records, free?, used}
 use Rattle.rules.specs.Layout.{size, partIs}
-use Rattle.rules.specs.Frame.{Lent, tables, Tables}
+use Rattle.rules.specs.Frame.{Lent, tables}
 use Rattle.rules.specs.Message.{fields, payload}
 use Rattle.rules.specs.Sound.{distinct, soundTable}
 use Rattle.rules.specs.Payloads.{wanted}
 use Rattle.rules.specs.Sessions.{inSession, filterLength, entriesPlace, mostEntries, chosen, entriesBy, listing}
-use Rattle.rules.specs.Commands.{sessionOr, payloadFits, judge, row}
-use Rattle.rules.specs.Calls.{message}
-use Rattle.rules.specs.History.{Call, sends, said, after, Event, history, octetsOnly, granted, bindNamed, hasPage, standing, freeTables}
-use Rattle.rules.specs.Sheet.{bindCount, entriesRead, readOf, NoStart, ReadBack, IsTheSheet, SameRecords}
+use Rattle.rules.specs.Commands.{sessionOr, payloadFits, judge}
+use Rattle.rules.specs.History.{sends, said, after, history, octetsOnly, bindNamed, hasPage, standing}
+use Rattle.rules.specs.Sheet.{bindCount, entriesRead, readOf, IsTheSheet, SameRecords}
 use Rattle.rules.proofs.Lists.{split, count-keep, length-kept, keep-all, keep-alike, all-append}
 use Rattle.rules.proofs.Records.{Each, each-records, records-bytes, length-bytes}
 use Rattle.rules.proofs.Words.{shaped}
@@ -28,7 +27,7 @@ use Rattle.rules.proofs.Standing.{Agree}
 use Rattle.rules.proofs.Granted.{pass, invalid, unauthorized, no-session}
 use Rattle.rules.proofs.Entries.{within-all, within-keep, within-take, within-distinct, entries-by}
 use Rattle.rules.proofs.Steps.{Reply, granted-reply, octets-payload}
-use Rattle.rules.proofs.Run.{Held, held-run}
+use Rattle.rules.proofs.Run.{held-run}
 use Rattle.rules.proofs.Closed.{same-binds}
 
 -- What a reply says

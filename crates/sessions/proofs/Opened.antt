@@ -1,5 +1,5 @@
 -- Laws of a session that is opened, used and ended, by what was found.
-use Rattle.words.specs.Basics.{_≡_, ap, true, false, not, List, [], _∷_, ℕ, _+_, _*_, _≤_, arith, length}
+use Rattle.words.specs.Basics.{_≡_, ap, true, false, not, List, [], _∷_, ℕ, _≤_, arith, length}
 use Rattle.words.specs.Names.{ok, noReadSession, notEnoughResources}
 use Rattle.rules.specs.Types.{DeviceAddress, Code, Filter, Binds, Sessions}
 use Rattle.rules.specs.Lists.{ask}

@@ -1,5 +1,5 @@
 -- `sessions::end` meets its contract: the record of who has one becomes free.
-use Rattle.words.specs.Basics.{refl, sym, ap, _∙_, arith, not-true, not-false, needs}
+use Rattle.words.specs.Basics.{sym, ap, _∙_, arith, not-true, not-false, needs}
 use Rattle.words.specs.Names.{unknownReason}
 use Rattle.rules.specs.Types.{Code}
 use Rattle.rules.specs.Tables.{addressed}
