@@ -10,8 +10,12 @@ pub const UNITS_LENGTH: usize = 32;
 pub const DEVICES_LENGTH: usize = (4 + UNITS_LENGTH) * 64;
 /// The devices of the old form at full size: 64 records of 4 octets (address 2, rights 1, highest unit 1).
 pub const OLD_DEVICES_LENGTH: usize = 4 * 64;
+/// A bind: source 3, interface type and UID 2, destination type and address 2, destination unit 1.
+pub const BIND_SIZE: usize = 8;
+/// Most binds that a table has.
+pub const MOST_BINDS: usize = 64;
 /// The binds at full size: 64 records of 8 octets.
-pub const BINDS_LENGTH: usize = 8 * 64;
+pub const BINDS_LENGTH: usize = BIND_SIZE * MOST_BINDS;
 /// The groups at full size: 16 records of 16 octets.
 pub const GROUPS_LENGTH: usize = 16 * 16;
 /// The members at full size: 128 records of 5 octets.
@@ -23,4 +27,4 @@ pub const MOST_ENTRIES: usize = 60;
 /// A recipient in the list: device 2, unit 1.
 pub const RECIPIENT_SIZE: usize = 3;
 /// The recipient list that serves tables at full size.
-pub const LIST_LENGTH: usize = RECIPIENT_SIZE * (64 + 128);
+pub const LIST_LENGTH: usize = RECIPIENT_SIZE * (MOST_BINDS + 128);

@@ -1,11 +1,13 @@
 //! The five tables, kept at full size, and the calls on them.
 
+use crate::binds::Binds;
 use crate::calls;
 use crate::lengths::{
-    BINDS_LENGTH, DEVICES_LENGTH, GROUPS_LENGTH, MEMBERS_LENGTH, OLD_DEVICES_LENGTH,
+    BINDS_LENGTH, DEVICES_LENGTH, GROUPS_LENGTH, LIST_LENGTH, MEMBERS_LENGTH, OLD_DEVICES_LENGTH,
     SESSIONS_LENGTH,
 };
 use crate::outcome::Outcome;
+use crate::reading::{read_all, ReadError};
 use crate::units::Units;
 
 /// The octet that a free record is made of.
@@ -99,6 +101,23 @@ impl Tables {
             &mut self.sessions,
             address,
         )
+    }
+
+    /// Reads all binds for a unit of a device that has rights, by [`read_all`]: a session is started, read in and ended.
+    ///
+    /// ```no_run
+    /// # use gneissfold::{compare, Bind, ReadError, Tables};
+    /// # fn compared(tables: &mut Tables, sheet: &[Bind]) -> Result<String, ReadError> {
+    /// let binds = tables.read_binds((0x0003, 1))?;
+    /// let report = compare(&binds, sheet).to_string();
+    /// # Ok(report)
+    /// # }
+    /// ```
+    pub fn read_binds(&mut self, sender: (u16, u8)) -> Result<Binds, ReadError> {
+        let mut list = [0; LIST_LENGTH];
+        read_all(sender, |message, reply| {
+            self.message(message, reply, &mut list)
+        })
     }
 }
 
