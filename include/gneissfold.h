@@ -93,6 +93,37 @@ enum gneissfold_code {
 #define GNEISSFOLD_HEADER_LENGTH 15   /* the octets before the payload, and the shortest message */
 #define GNEISSFOLD_LONGEST 500        /* the longest message, and the least room for a reply */
 
+/*
+ * Commands: messages to D'0:U'0 of type 0x01 or 0x02, to the server interface of one of these UIDs, with one of these members. Behind each
+ * stands its payload, in octets. "Source" is octets 1 and 2 of a bind, "destination" 6 and 7, the flag of a group included.
+ */
+#define GNEISSFOLD_BIND_MANAGEMENT 0x0002
+#define GNEISSFOLD_GROUP_MANAGEMENT 0x0003
+
+enum gneissfold_bind_member {
+    GNEISSFOLD_ADD_BIND = 0x01,                          /* bind 8 */
+    GNEISSFOLD_REMOVE_BIND = 0x02,                       /* bind 8 */
+    GNEISSFOLD_REMOVE_BY_SOURCE = 0x03,                  /* source 2 */
+    GNEISSFOLD_REMOVE_BY_SOURCE_UNIT = 0x04,             /* source 2, its unit 1 */
+    GNEISSFOLD_REMOVE_BY_DESTINATION = 0x05,             /* destination 2 */
+    GNEISSFOLD_REMOVE_BY_DESTINATION_UNIT = 0x06,        /* destination 2, its unit 1 */
+    GNEISSFOLD_START_READING = 0x07,                     /* none */
+    GNEISSFOLD_END_READING = 0x08,                       /* none */
+    GNEISSFOLD_READ_BY_INDEX = 0x09,                     /* index 2, from 0; how many 1 */
+    GNEISSFOLD_READ_BY_SOURCE = 0x0A,                    /* source 2 */
+    GNEISSFOLD_READ_BY_SOURCE_UNIT = 0x0B,               /* source 2, its unit 1 */
+    GNEISSFOLD_READ_BY_DESTINATION = 0x0C,               /* destination 2 */
+    GNEISSFOLD_READ_BY_DESTINATION_UNIT = 0x0D           /* destination 2, its unit 1 */
+};
+
+enum gneissfold_group_member {
+    GNEISSFOLD_CREATE_GROUP = 0x01,                      /* length of the name 1, name */
+    GNEISSFOLD_DELETE_GROUP = 0x02,                      /* group 2 */
+    GNEISSFOLD_ADD_TO_GROUP = 0x03,                      /* group 2, device 2, unit 1 */
+    GNEISSFOLD_REMOVE_FROM_GROUP = 0x04,                 /* group 2, device 2, unit 1 */
+    GNEISSFOLD_GET_GROUP_INFO = 0x05                     /* group 2 */
+};
+
 /* The recipient list: device 2, unit 1. This length serves tables at full size. */
 #define GNEISSFOLD_RECIPIENT_SIZE 3
 #define GNEISSFOLD_LIST_LENGTH (GNEISSFOLD_RECIPIENT_SIZE * (GNEISSFOLD_MOST_BINDS + GNEISSFOLD_MOST_MEMBERS))
@@ -116,11 +147,26 @@ enum gneissfold_code {
 #define GNEISSFOLD_ANY_INTERFACE 0x7FFF    /* as UID, behind the interface type */
 
 /*
- * Reading binds back. A device with rights starts a session (Bind Management, member 0x07), reads by index, by source or by destination, with
- * its unit or without (0x09 to 0x0D), and ends the session (0x08). A reply holds as many entries as fit. Any change to the binds closes all
- * sessions, and a release that device's: the sessions table says who has one.
+ * Reading binds back. A device with rights opens a session (GNEISSFOLD_START_READING, answered with the number of binds), reads in it
+ * and ends it. The session is the device's: any of its units may read and end. To start again while it is open is no harm: it goes on.
+ *
+ * Every change to the binds closes all sessions, and a release that device's, so pages that were read in one session are one table. A read
+ * without a session is answered 0x20: somebody changed the binds, what was read is no longer the table, and the reader starts again. An end
+ * without a session is answered 0xFF: there is nothing to end. A start is answered 0xFE while GNEISSFOLD_MOST_SESSIONS others read: ask again
+ * later; 0x01: the device has no rights.
+ *
+ * A read answered 0x00 gives entries as they are stored, GNEISSFOLD_BIND_SIZE octets each, in the order of the table, as many as there are and
+ * were asked for, and at most GNEISSFOLD_MOST_ENTRIES, which is what a reply holds. By index it begins at any bind, counted from 0 without the
+ * free records; past the last there are none. By source or destination only the first 60 that match are given: who gets 60 reads by index.
+ * They match as at a removal, so any is read by any alone.
  */
 #define GNEISSFOLD_MOST_ENTRIES 60
+
+/* Places in a reply, from 0. What follows the code is there where this is 0x00. */
+#define GNEISSFOLD_REPLY_CODE 15         /* of every reply */
+#define GNEISSFOLD_REPLY_BINDS 16        /* start: how many binds there are, 2 octets */
+#define GNEISSFOLD_REPLY_NUMBER 16       /* read: how many entries the reply has, 1 octet */
+#define GNEISSFOLD_REPLY_ENTRIES 17      /* read: the entries, one behind the other */
 
 /* The places of the fields that gneissfold_read writes. */
 enum gneissfold_field {
