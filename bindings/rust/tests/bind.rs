@@ -136,6 +136,8 @@ fn a_sheet_is_compared_in_any_order_and_by_how_often_a_bind_stands() {
     assert_eq!(compared(&[1], &[1, 1, 2, 1]), (vec![1, 2, 1], vec![]));
     assert_eq!(compared(&[5, 1, 5, 5], &[5]), (vec![], vec![1, 5, 5]));
     assert_eq!(compared(&[1, 1, 2], &[2, 2, 1]), (vec![2], vec![1]));
+    assert_eq!(compared(&[1, 2, 1], &[2, 1, 1]), (vec![], vec![]));
+    assert_eq!(compared(&[1, 1, 1], &[1, 1]), (vec![], vec![1]));
 }
 
 #[test]
