@@ -4,7 +4,8 @@ use core::fmt;
 
 use crate::bind::Bind;
 
-/// Compares the binds that were read with those of a sheet. Their order plays no part.
+/// Compares the binds that were read with those of a sheet. Their order plays no part; every octet does, as in the hub: a bind to a group with another
+/// unit behind it is another bind.
 ///
 /// ```
 /// use gneissfold::{compare, Address, Bind, Role};

@@ -105,13 +105,19 @@ impl Tables {
 
     /// Reads all binds for a unit of a device that has rights, by [`read_all`]: a session is started, read in and ended.
     ///
-    /// ```no_run
-    /// # use gneissfold::{compare, Bind, ReadError, Tables};
-    /// # fn compared(tables: &mut Tables, sheet: &[Bind]) -> Result<String, ReadError> {
-    /// let binds = tables.read_binds((0x0003, 1))?;
-    /// let report = compare(&binds, sheet).to_string();
-    /// # Ok(report)
-    /// # }
+    /// ```
+    /// use gneissfold::{compare, Address, Bind, Outcome, Role, Tables, Units};
+    ///
+    /// let mut tables = Tables::new();
+    /// assert_eq!(tables.admit(3, 1, Units::up_to(1)), Outcome::Done);
+    /// let sheet = [Bind::new(3, 1, Role::Server, 0x0200, Address::Device(4), 2).unwrap()];
+    ///
+    /// let binds = tables.read_binds((3, 1))?;
+    /// assert_eq!(
+    ///     compare(&binds, &sheet).to_string(),
+    ///     "missing: 0003:01 to 0004:02 at server interface 0x0200\n"
+    /// );
+    /// # Ok::<(), gneissfold::ReadError>(())
     /// ```
     pub fn read_binds(&mut self, sender: (u16, u8)) -> Result<Binds, ReadError> {
         let mut list = [0; LIST_LENGTH];
