@@ -151,9 +151,9 @@ enum gneissfold_group_member {
  * and ends it. The session is the device's: any of its units may read and end. To start again while it is open is no harm: it goes on.
  *
  * Every change to the binds closes all sessions, and a release that device's, so pages that were read in one session are one table. A read
- * without a session is answered 0x20: somebody changed the binds, what was read is no longer the table, and the reader starts again. An end
- * without a session is answered 0xFF: there is nothing to end. A start is answered 0xFE while GNEISSFOLD_MOST_SESSIONS others read: ask again
- * later; 0x01: the device has no rights.
+ * without a session is answered 0x20: where it was open before, somebody changed the binds, what was read is no longer the table, and the
+ * reader starts again. An end without a session is answered 0xFF: there is nothing to end. A start is answered 0xFE while all records of
+ * the sessions table are other devices': it is tried again later. It is answered 0x01 where the device has no rights.
  *
  * A read answered 0x00 gives entries as they are stored, GNEISSFOLD_BIND_SIZE octets each, in the order of the table, as many as there are and
  * were asked for, and at most GNEISSFOLD_MOST_ENTRIES, which is what a reply holds. By index it begins at any bind, counted from 0 without the
