@@ -65,7 +65,7 @@ static int command(uint16_t from, uint8_t uid, uint8_t member, const uint8_t *pa
     return reply[GNEISSFOLD_REPLY_CODE];
 }
 
-/* Lent where there is no payload: a pointer is never NULL. */
+/* Stands where there is no payload: memcpy takes no NULL. */
 static const uint8_t nothing[1];
 
 static int on_binds(uint16_t from, uint8_t member, const uint8_t *payload, uint8_t length)

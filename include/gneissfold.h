@@ -151,9 +151,11 @@ enum gneissfold_group_member {
  * and ends it. The session is the device's: any of its units may read and end. To start again while it is open is no harm: it goes on.
  *
  * Every change to the binds closes all sessions, and a release that device's, so pages that were read in one session are one table. A read
- * without a session is answered 0x20: where it was open before, somebody changed the binds, what was read is no longer the table, and the
- * reader starts again. An end without a session is answered 0xFF: there is nothing to end. A start is answered 0xFE while all records of
- * the sessions table are other devices': it is tried again later. It is answered 0x01 where the device has no rights.
+ * without a session is answered 0x20: where it was open before, it was closed by a change of the binds, or another unit of the device ended
+ * it, or the device was released; what was read may no longer be the table, and the reader starts again. One unit of a device reads at a
+ * time: a start by another one after a change would hide the change. An end without a session is answered 0xFF: there is nothing to end.
+ * A start is answered 0xFE while all records of the sessions table are other devices': it is tried again later. It is answered 0x01 where
+ * the device has no rights.
  *
  * A read answered 0x00 gives entries as they are stored, GNEISSFOLD_BIND_SIZE octets each, in the order of the table, as many as there are and
  * were asked for, and at most GNEISSFOLD_MOST_ENTRIES, which is what a reply holds. By index it begins at any bind, counted from 0 without the
@@ -210,7 +212,8 @@ uint8_t gneissfold_message(
     size_t *count);
 
 /*
- * Admits a device, with its rights (1: its bind and group commands are served, 0: refused with code 0x01) and its units.
+ * Admits a device, with its rights (1: its commands are served, 0: they are refused with code 0x01, but for Get Group Info, reads and the
+ * end of a reading) and its units.
  *
  * Lent until the call returns: the devices, to be changed, and the other four tables and `units`, to be read. `units` is a set of units,
  * always GNEISSFOLD_UNITS_LENGTH octets. It was the number of the highest unit before, h: callers are compiled anew (a 0 written out there

@@ -1,17 +1,18 @@
 -- One theory of the five filters (document 02, request 1: "The facts about matching are proved once over the five filters"): what a read gives are whole
--- records, as many as fit behind the header, in table order, none twice. Proved of any choice of records, and then of each filter.
+-- records in use that match, in table order, none twice, all where they fit, and no more than fit behind the header. Proved of any choice of records, and
+-- so of every filter. (The entries of a history are something else: what a call writes on the sheet.)
 use Rattle.words.specs.Basics.{_≡_, refl, Bool, true, false, cond, not, _||_, List, [], _∷_, ℕ, zero, suc, _+_, _≤_, min, arith, length}
-use Rattle.words.specs.Basics.{take}
-use Rattle.words.specs.Basics.{drop, length-take, not-true}
+use Rattle.words.specs.Basics.{take, drop, length-take, take-all, not-true}
 use Rattle.words.specs.Names.{headerLength, longest}
 use Rattle.rules.specs.Types.{Filter, Index, Part, Binds}
-use Rattle.rules.specs.Lists.{any, keep}
+use Rattle.rules.specs.Lists.{any, all, keep}
 use Rattle.rules.specs.Octets.{octet, word}
 use Rattle.rules.specs.Tables.{Rec, free?, used, matches}
-use Rattle.rules.specs.Layout.{size}
+use Rattle.rules.specs.Layout.{size, partIs}
 use Rattle.rules.specs.Sound.{distinct}
+use Rattle.rules.specs.Payloads.{wanted}
 use Rattle.rules.specs.Sessions.{mostEntries, chosen, entriesBy, listing}
-use Rattle.rules.proofs.Lists.{and-parts, or-parts}
+use Rattle.rules.proofs.Lists.{and-parts, or-parts, all-keep, all-kept, all-take, all-drop}
 use Rattle.rules.proofs.Records.{Each, length-bytes}
 
 -- Some of a list, in its order
@@ -90,12 +91,57 @@ module _ (i n : ℕ) (q : Rec → Bool) (t : List Rec) where
   unfolding chosen
   chosen-few = omega (arith, length-take n (keep q (drop i (used t))))
 
+  -- what all of the records in use have, those that are chosen have
+  chosen-all : (p : Rec → Bool) → all p (used t) ≡ true → all p (chosen i n q t) ≡ true
+  unfolding chosen
+  chosen-all p h = all-take p n (keep q (drop i (used t))) (all-keep p q (drop i (used t)) (all-drop p i (used t) h))
+
+  chosen-used : all (λ r. not (free? r)) (chosen i n q t) ≡ true
+  unfolding used
+  chosen-used = chosen-all (λ r. not (free? r)) (all-kept (λ r. not (free? r)) t)
+
+  chosen-pass : all q (chosen i n q t) ≡ true
+  unfolding chosen
+  chosen-pass = all-take q n (keep q (drop i (used t))) (all-kept q (drop i (used t)))
+
+  chosen-whole : length (keep q (drop i (used t))) ≤ n → chosen i n q t ≡ keep q (drop i (used t))
+  unfolding chosen
+  chosen-whole h = take-all n (keep q (drop i (used t))) h
+
 -- A read
 
+-- what a filter asks: from which number on, at most how many, and of each record
+
+abbrev pub fromOn : Filter → List ℕ → ℕ
+fromOn Index p = word 0 p
+fromOn (Part q) p = 0
+
+abbrev pub atMost : Filter → List ℕ → ℕ
+atMost Index p = min (octet 2 p) mostEntries
+atMost (Part q) p = mostEntries
+
+abbrev pub asksFor : Filter → List ℕ → Rec → Bool
+asksFor Index p b = true
+asksFor (Part q) p b = partIs q (wanted q p) b
+
+as-chosen : (f : Filter) (p : List ℕ) (bs : List Rec) → entriesBy f p bs ≡ chosen (fromOn f p) (atMost f p) (asksFor f p) bs
+unfolding entriesBy
+as-chosen Index p bs = refl
+as-chosen (Part q) p bs = refl
+
+no-more : (f : Filter) (p : List ℕ) → atMost f p ≤ mostEntries
+no-more Index p = omega arith
+no-more (Part q) p = omega arith
+
 -- what is known of the entries es of a read, in a table of these binds
-pub record Entered (bs es : List Rec) : Type 0 where
+pub record Entered (f : Filter) (p : List ℕ) (bs es : List Rec) : Type 0 where
   -- those of the table, in its order
   pub order : Within es bs
+  -- in use, and such as it asks for
+  pub in-use : all (λ r. not (free? r)) es ≡ true
+  pub asked : all (asksFor f p) es ≡ true
+  -- all of these, where no more are there than it may give
+  pub complete : length (keep (asksFor f p) (drop (fromOn f p) (used bs))) ≤ atMost f p → es ≡ keep (asksFor f p) (drop (fromOn f p) (used bs))
   -- no more than fit
   pub few : length es ≤ mostEntries
   -- whole records
@@ -105,21 +151,22 @@ pub record Entered (bs es : List Rec) : Type 0 where
   -- nothing beyond the part of the reply behind the header
   pub short : headerLength + suc (length (listing es)) ≤ longest
 
-entered : {bs es : List Rec} → Within es bs → length es ≤ mostEntries → Each (size Binds) bs → distinct (size Binds) bs ≡ true → Entered bs es
+pub entries-by : (f : Filter) (p : List ℕ) (bs : List Rec) → Each (size Binds) bs → distinct (size Binds) bs ≡ true → Entered f p bs (entriesBy f p bs)
 unfolding listing
-entered {bs} {es} w f e d =
+entries-by f p bs e d =
+    let i : ℕ = fromOn f p in
+    let n : ℕ = atMost f p in
+    let q : Rec → Bool = asksFor f p in
+    let w = chosen-within i n q bs in
     let z = within-each (size Binds) w e in
-    record {
+    let l : length (chosen i n q bs) ≤ mostEntries = omega (arith, chosen-few i n q bs, no-more f p) in
+    rw (as-chosen f p bs) (record {
       order = w;
-      few = f;
+      in-use = chosen-used i n q bs;
+      asked = chosen-pass i n q bs;
+      complete = chosen-whole i n q bs;
+      few = l;
       whole = z;
       once = within-distinct (size Binds) w d;
-      short = omega (arith, length-bytes (size Binds) es z);
-    }
-
-pub entries-by : (f : Filter) (p : List ℕ) (bs : List Rec) → Each (size Binds) bs → distinct (size Binds) bs ≡ true → Entered bs (entriesBy f p bs)
-unfolding entriesBy
-entries-by Index p bs e d =
-    entered (chosen-within _ (min (octet 2 p) mostEntries) _ bs)
-    (omega (arith, chosen-few (word 0 p) (min (octet 2 p) mostEntries) (λ b. true) bs)) e d
-entries-by (Part q) p bs e d = entered (chosen-within _ mostEntries _ bs) (chosen-few 0 mostEntries _ bs) e d
+      short = omega (arith, l, length-bytes (size Binds) (chosen i n q bs) z);
+    })

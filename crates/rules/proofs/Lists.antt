@@ -167,6 +167,16 @@ module _ {A : Type 0} where
       let a = and-parts (p x) (all p l) h in
       elim (q x) as (λ b. all p (cond b (x ∷ keep q l) (keep q l)) ≡ true) [ true ↦ rw (a.0) (all-keep p q l a.1) | false ↦ all-keep p q l a.1 ]
 
+  -- what is kept passes
+  pub all-kept : (q : A → Bool) (l : List A) → all q (keep q l) ≡ true
+  unfolding all keep
+  all-kept q [] = refl
+  all-kept q (x ∷ l) = step (q x) refl (all-kept q l)
+    where
+      step : (b : Bool) → q x ≡ b → all q (keep q l) ≡ true → all q (cond b (x ∷ keep q l) (keep q l)) ≡ true
+      step true e ih = rw e ih
+      step false e ih = ih
+
   pub all-append : (p : A → Bool) (k l : List A) → all p k ≡ true → all p l ≡ true → all p (k ++ l) ≡ true
   unfolding all
   all-append p [] l h g = g

@@ -187,6 +187,7 @@ by-source = letter three-one concentrator 0x01 bindManagement 0x0A (run 2 0x00_0
 
 -- what `is-the-sheet` asks of a read m by the filter f, and what its reply then says
 pub record MeetsRead (f : Filter) (m : List ℕ) (es : List Rec) : Type 0 where
+  pub free : freeTables start ≡ true
   pub octets : all octetsOnly in-session ≡ true
   pub later : all octetsOnly meanwhile ≡ true
   pub no-start : NoStart (fields m .source) meanwhile
@@ -202,14 +203,33 @@ not-start e = let z : _≡_ {A = ℕ} 0 1 = cc in absurd (omega arith)
 
 pub reads-page : MeetsRead Index page (A ∷ B ∷ [])
 unfolding whole calls
-reads-page = record { octets = refl; later = refl; no-start = (λ e. not-start (e .0), tt); message = refl; asks = refl; granted = refl; says = refl }
+reads-page = record {
+  free = refl;
+  octets = refl;
+  later = refl;
+  no-start = (λ e. not-start (e .0), tt);
+  message = refl;
+  asks = refl;
+  granted = refl;
+  says = refl;
+}
 
 pub reads-by-source : MeetsRead (Part Source) by-source (A ∷ B ∷ [])
 unfolding whole calls
-reads-by-source = record { octets = refl; later = refl; no-start = (λ e. not-start (e .0), tt); message = refl; asks = refl; granted = refl; says = refl }
+reads-by-source = record {
+  free = refl;
+  octets = refl;
+  later = refl;
+  no-start = (λ e. not-start (e .0), tt);
+  message = refl;
+  asks = refl;
+  granted = refl;
+  says = refl;
+}
 
 -- .. and Start counts two
-pub starts-two : (granted (sends start-session reply list) (said (after start calls) (sends start-session reply list)) ≡ true)
+pub starts-two : (octetString start-session ≡ true) × (command (fields start-session) ≡ Is StartSession)
+    × (granted (sends start-session reply list) (said (after start calls) (sends start-session reply list)) ≡ true)
     × (bindCount (said (after start calls) (sends start-session reply list)) ≡ 2)
 unfolding whole calls
-starts-two = (refl, refl)
+starts-two = (refl, refl, refl, refl)

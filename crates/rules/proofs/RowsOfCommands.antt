@@ -2,7 +2,7 @@
 use Rattle.words.specs.Basics.{List, [], _∷_, _++_, map, flatMap, ℕ, length, take, drop, replicate}
 use Rattle.rules.specs.Frame.{Lent}
 use Rattle.rules.specs.Calls.{Answer}
-use Rattle.rules.proofs.Samples.{Row, row, run, with-sessions, reading, house, plain, a, five, full-of-binds, full-of-members, three-one, four-one}
+use Rattle.rules.proofs.Samples.{Row, row, run, with-sessions, in-session-of, house, plain, a, five, full-of-binds, full-of-members, three-one, four-one}
 use Rattle.rules.proofs.Samples.{concentrator}
 use Rattle.rules.proofs.Samples.{bindManagement, groupManagement, letter, Sent, sent, unchanged, replied, code}
 
@@ -49,7 +49,7 @@ eighteen = asking ++ unasked
 -- "0x02 payload length": one octet too long, one too short; for End and the reads before their session is asked, with one and without
 abbrev pub payload-lengths : List (Row Sent Answer)
 payload-lengths =
-    flatMap (λ L. flatMap (λ g. wrong L g (g .payload ++ 0x00 ∷ []) ∷ shorter L g (g .payload)) eighteen) (five ∷ reading (run 2 0x00_03) five ∷ [])
+    flatMap (λ L. flatMap (λ g. wrong L g (g .payload ++ 0x00 ∷ []) ∷ shorter L g (g .payload)) eighteen) (five ∷ in-session-of (run 2 0x00_03) five ∷ [])
   where
     wrong : Lent → Given → List ℕ → Row Sent Answer
     wrong L g p = code 0x02 (g .interface) (g .member) L p

@@ -4,7 +4,8 @@ use Rattle.rules.specs.Frame.{Lent}
 use Rattle.rules.specs.Calls.{Answer}
 use Rattle.rules.proofs.RowsOfBinds.{gone}
 use Rattle.rules.proofs.RowsOfSessions.{S3, S4, from}
-use Rattle.rules.proofs.Samples.{Row, row, run, lending, with-sessions, reading, devices, groups, members, holding, house, plain, a, b, c, d, e, five}
+use Rattle.rules.proofs.Samples.{Row, row, run, lending, with-sessions, in-session-of, devices, groups, members, holding, house, far, plain, a, b, c, d}
+use Rattle.rules.proofs.Samples.{e, five}
 use Rattle.rules.proofs.Samples.{three-one, four-one, concentrator, bindManagement, letter, Sent, told, reply}
 
 -- 0x00, how many, and each as it is stored
@@ -13,7 +14,7 @@ lists es = 0x00 ∷ length es ∷ flatMap (λ x. x) es
 
 -- a read of 3:01 in its session: the table's binds, member, payload, the entries
 abbrev read : Lent → ℕ → List ℕ → List (List ℕ) → Row Sent Answer
-read L member p es = from three-one member p (reading S3 L) (reading S3 L) (lists es)
+read L member p es = from three-one member p (in-session-of S3 L) (in-session-of S3 L) (lists es)
 
 -- by index: start index and number
 
@@ -87,20 +88,28 @@ abbrev reads : List (Row ℕ (List ℕ))
 reads =
     row 0x09 (run 3 0x00_00_05) ∷ row 0x0A (run 2 0x00_03) ∷ row 0x0B (run 3 0x00_03_01) ∷ row 0x0C (run 2 0x00_04) ∷ row 0x0D (run 3 0x00_04_01) ∷ []
 
+-- .. also one with the same lower octet
+abbrev others : Lent
+others = in-session-of (run 2 0x12_34) far
+
 abbrev pub without-session : List (Row Sent Answer)
 without-session =
     map (λ x. from three-one (x .asked) (x .due) five five (0x20 ∷ [])) reads
     -- another device's is none
-    ++ map (λ x. from three-one (x .asked) (x .due) (reading S4 five) (reading S4 five) (0x20 ∷ [])) reads
-    ++ map (λ x. from concentrator (x .asked) (x .due) (reading S3 five) (reading S3 five) (0x20 ∷ [])) reads
+    ++ map (λ x. from three-one (x .asked) (x .due) (in-session-of S4 five) (in-session-of S4 five) (0x20 ∷ [])) reads
+    ++ map (λ x. from concentrator (x .asked) (x .due) (in-session-of S3 five) (in-session-of S3 five) (0x20 ∷ [])) reads
+    ++ map (λ x. from (run 3 0x00_34_00) (x .asked) (x .due) others others (0x20 ∷ [])) reads
     -- nor are rights asked: 0x20 and not 0x01
     ++ map (λ x. from four-one (x .asked) (x .due) five five (0x20 ∷ [])) reads
 
 -- A session is the device's, and rights are not asked: device 4, whose rights are 0, and another unit of it
 abbrev pub in-session : List (Row Sent Answer)
 in-session =
-    map (λ unit. from unit 0x09 (run 3 0x00_02_01) (reading (S3 ++ S4) five) (reading (S3 ++ S4) five) (lists (c ∷ []))) (four-one ∷ run 3 0x00_04_02 ∷ [])
-    ++ map (λ unit. from unit 0x0C (run 2 0x80_01) (reading S4 five) (reading S4 five) (lists (d ∷ []))) (four-one ∷ run 3 0x00_04_00 ∷ [])
+    map (λ unit. from unit 0x09 (run 3 0x00_02_01) both both (lists (c ∷ []))) (four-one ∷ run 3 0x00_04_02 ∷ [])
+    ++ map (λ unit. from unit 0x0C (run 2 0x80_01) (in-session-of S4 five) (in-session-of S4 five) (lists (d ∷ []))) (four-one ∷ run 3 0x00_04_00 ∷ [])
+  where
+    both : Lent
+    both = in-session-of (S3 ++ S4) five
 
 -- "as many whole ones as a payload of 485 octets holds": sixty of a table of 62
 
@@ -121,6 +130,7 @@ sixty member p es =
 abbrev pub no-more-than-fit : List (Row Sent Answer)
 no-more-than-fit =
     sixty 0x09 (run 3 0x00_00_3D) (interfaces 60 0)
+    ∷ sixty 0x09 (run 3 0x00_00_80) (interfaces 60 0)
     ∷ sixty 0x09 (run 3 0x00_01_3C) (interfaces 60 1)
     ∷ sixty 0x09 (run 3 0x00_01_3B) (interfaces 59 1)
     ∷ sixty 0x09 (run 3 0x00_3C_FF) (interfaces 2 60)

@@ -5,8 +5,10 @@ use Rattle.rules.specs.Calls.{Answer}
 use Rattle.rules.specs.Host.{HostAnswer}
 use Rattle.rules.proofs.RowsOfBinds.{gone}
 use Rattle.rules.proofs.RowsOfCalls.{hosted, Admitting, admitting, not-admitted, Releasing, releasing, not-released}
-use Rattle.rules.proofs.Samples.{Row, row, run, filled, zero-to-two, device-table, D1, D3, D4, D5, known, devices, named, groups, members, with-sessions}
-use Rattle.rules.proofs.Samples.{reading, session-table, holding, house, plain, a, b, c, d, e, five, three-one, four-one, concentrator, curtains}
+use Rattle.rules.proofs.Samples.{Row, row, run, filled, zero-to-two, zero-to-254, device-table, D1, D3, D4, D5, known, devices, named, groups, members}
+use Rattle.rules.proofs.Samples.{with-sessions}
+use Rattle.rules.proofs.Samples.{in-session-of, session-table, holding, house, far, plain, a, b, c, d, e, five, three-one, four-one, concentrator}
+use Rattle.rules.proofs.Samples.{curtains}
 use Rattle.rules.proofs.Samples.{bindManagement, groupManagement, letter, request, Sent, sent, unchanged, goes, replied, command, code}
 
 -- sessions of devices 1, 3, 4, 5 and of the concentrator; a free record
@@ -57,15 +59,18 @@ start-session =
     ∷ starts five [] [] (0xFE ∷ [])
     ∷ starts five S3 S3 (run 3 0x00_00_05)
     -- from another unit of the device, and from the concentrator
-    ∷ from (run 3 0x00_03_02) 0x07 [] five (reading S3 five) (run 3 0x00_00_05)
-    ∷ from (run 3 0x00_03_02) 0x07 [] (reading S3 five) (reading S3 five) (run 3 0x00_00_05)
-    ∷ from concentrator 0x07 [] (reading S3 five) (reading (S3 ++ S0) five) (run 3 0x00_00_05)
+    ∷ from (run 3 0x00_03_02) 0x07 [] five (in-session-of S3 five) (run 3 0x00_00_05)
+    ∷ from (run 3 0x00_03_02) 0x07 [] (in-session-of S3 five) (in-session-of S3 five) (run 3 0x00_00_05)
+    ∷ from concentrator 0x07 [] (in-session-of S3 five) (in-session-of (S3 ++ S0) five) (run 3 0x00_00_05)
     -- rights are asked, also of who has a session, and before 0xFE
     ∷ from four-one 0x07 [] five five (0x01 ∷ [])
-    ∷ from four-one 0x07 [] (reading S4 five) (reading S4 five) (0x01 ∷ [])
+    ∷ from four-one 0x07 [] (in-session-of S4 five) (in-session-of S4 five) (0x01 ∷ [])
     ∷ from four-one 0x07 [] (with-sessions S1 five) (with-sessions S1 five) (0x01 ∷ [])
+    -- an address of two octets
+    ∷ from (run 3 0x7F_FE_00) 0x07 [] far (in-session-of (run 2 0x7F_FE) far) (run 3 0x00_00_00)
     -- as type 0x02
-    ∷ row (sent five (letter three-one concentrator 0x02 bindManagement 0x07 [])) (replied (reading S3 five) three-one bindManagement 0x07 (run 3 0x00_00_05))
+    ∷ row (sent five (letter three-one concentrator 0x02 bindManagement 0x07 []))
+    (replied (in-session-of S3 five) three-one bindManagement 0x07 (run 3 0x00_00_05))
     ∷ []
 
 -- End
@@ -73,23 +78,26 @@ start-session =
 abbrev pub end-session : List (Row Sent Answer)
 end-session =
     -- its own record becomes free, and no other
-    from three-one 0x08 [] (reading S3 five) five (0x00 ∷ [])
-    ∷ from three-one 0x08 [] (reading (S4 ++ S3 ++ S1) five) (reading (S4 ++ none ++ S1) five) (0x00 ∷ [])
-    ∷ from (run 3 0x00_03_02) 0x08 [] (reading (S3 ++ S4) five) (reading (none ++ S4) five) (0x00 ∷ [])
-    ∷ from concentrator 0x08 [] (reading (S3 ++ S0) five) (reading S3 five) (0x00 ∷ [])
+    from three-one 0x08 [] (in-session-of S3 five) five (0x00 ∷ [])
+    ∷ from three-one 0x08 [] (in-session-of (S4 ++ S3 ++ S1) five) (in-session-of (S4 ++ none ++ S1) five) (0x00 ∷ [])
+    ∷ from (run 3 0x00_03_02) 0x08 [] (in-session-of (S3 ++ S4) five) (in-session-of (none ++ S4) five) (0x00 ∷ [])
+    ∷ from concentrator 0x08 [] (in-session-of (S3 ++ S0) five) (in-session-of S3 five) (0x00 ∷ [])
     -- rights are not asked
-    ∷ from four-one 0x08 [] (reading S4 five) five (0x00 ∷ [])
+    ∷ from four-one 0x08 [] (in-session-of S4 five) five (0x00 ∷ [])
+    -- of two addresses with one lower octet
+    ∷ from (run 3 0x12_34_00) 0x08 [] (in-session-of (run 2 0x00_34 ++ run 2 0x12_34) far) (in-session-of (run 2 0x00_34) far) (0x00 ∷ [])
+    ∷ from (run 3 0x12_34_00) 0x08 [] (in-session-of (run 2 0x00_34) far) (in-session-of (run 2 0x00_34) far) (0xFF ∷ [])
     -- without one: 0xFF
     ∷ from three-one 0x08 [] five five (0xFF ∷ [])
-    ∷ from three-one 0x08 [] (reading (S4 ++ S1) five) (reading (S4 ++ S1) five) (0xFF ∷ [])
-    ∷ from concentrator 0x08 [] (reading S3 five) (reading S3 five) (0xFF ∷ [])
+    ∷ from three-one 0x08 [] (in-session-of (S4 ++ S1) five) (in-session-of (S4 ++ S1) five) (0xFF ∷ [])
+    ∷ from concentrator 0x08 [] (in-session-of S3 five) (in-session-of S3 five) (0xFF ∷ [])
     ∷ from four-one 0x08 [] five five (0xFF ∷ [])
     ∷ []
 
 -- "any change to the bind table closes all sessions": devices 3 and 4 read while 3:01 commands
 
 abbrev both : Lent → Lent
-both L = reading (S3 ++ S4) L
+both L = in-session-of (S3 ++ S4) L
 
 -- granted, and all are closed, or none
 
@@ -160,11 +168,15 @@ released-sessions =
     ∷ releases (a ++ c) (S3 ++ S5 ++ S4) a (session-table [])
     ∷ releases (a ++ c) (S3 ++ S4 ++ S0) a (session-table [])
     ∷ releases (run 8 0x00_05_01_82_00_80_01_00 ++ a) (S3 ++ S4 ++ S1) (gone ++ a) (session-table [])
+    -- of two addresses with one lower octet
+    ∷ row (releasing (in-session-of (run 2 0x00_34 ++ run 2 0x12_34) far) 0x0034)
+    (hosted 0 (in-session-of (none ++ run 2 0x12_34) (holding (known 0x7FFE 1 zero-to-254 ++ known 0x1234 0 zero-to-two ++ device-table 1 []) (filled 16 [])
+    (far .groups) (run 5 0x12_34_12_34_02 ++ filled 5 [] ++ run 5 0x12_34_7F_FE_FE ++ filled 5 []))))
     -- 23: nothing changes
     ∷ not-released (five-with a (S3 ++ S4)) 6 23
     ∷ []
 
--- "One lent record per reading device .. (device address, 2 octets, at most 8, free ones 0xFF, none twice, each admitted or D'0000)"
+-- "One lent record per in-session-of device .. (device address, 2 octets, at most 8, free ones 0xFF, none twice, each admitted or D'0000)"
 
 -- a device's session twice, also behind a free record and of the concentrator; no such device, one with the top bit, D'7FFF; half a record; nine records
 abbrev unsound : List Lent

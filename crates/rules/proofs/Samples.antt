@@ -111,8 +111,8 @@ abbrev pub with-sessions : List ℕ → Lent → Lent
 with-sessions ss L = beside L (L .devices) (L .binds) (L .groups) (L .members) ss
 
 -- tables in which these devices, two octets each, have a session
-abbrev pub reading : List ℕ → Lent → Lent
-reading ss L = with-sessions (session-table ss) L
+abbrev pub in-session-of : List ℕ → Lent → Lent
+in-session-of ss L = with-sessions (session-table ss) L
 
 -- tables that hold these octets, and no session
 abbrev pub holding : List ℕ → List ℕ → List ℕ → List ℕ → Lent

@@ -129,17 +129,24 @@ all-named sheet standing q p s d n = (same, within-distinct (size Binds) (within
         rw (take-all mostEntries (keep (bindNamed q p) sheet) few)
         (count-keep w (bindNamed q p) sheet ∙ s (λ x. bindNamed q p x && w x) ∙ sym (count-keep w (bindNamed q p) standing))
 
--- by index: pages of these sizes, each from where the one before it ended
-abbrev pub pages : ℕ → List ℕ → List Rec → List Rec
-pages i [] sheet = []
-pages i (n ∷ ns) sheet = take n (drop i sheet) ++ pages (i + n) ns sheet
+-- by index: reads with these payloads, each from where the one before it ended
+abbrev pub InTurn : ℕ → List (List ℕ) → Type 0
+InTurn i [] = Unit {0}
+InTurn i (p ∷ ps) = (word 0 p ≡ i) × InTurn (i + min (octet 2 p) mostEntries) ps
 
-abbrev pub total : List ℕ → ℕ
+-- what they give, and how many they may give
+abbrev pub pages : List (List ℕ) → List Rec → List Rec
+pages [] sheet = []
+pages (p ∷ ps) sheet = readOf Index p sheet ++ pages ps sheet
+
+abbrev pub total : List (List ℕ) → ℕ
 total [] = 0
-total (n ∷ ns) = n + total ns
+total (p ∷ ps) = min (octet 2 p) mostEntries + total ps
 
--- .. are together the sheet, once they are as many as it has
-pub all-pages : (i : ℕ) (ns : List ℕ) (sheet : List Rec) → length sheet ≤ i + total ns → pages i ns sheet ≡ drop i sheet
-all-pages i [] sheet h = let l : length sheet ≤ i = omega arith in sym (drop-of-length-le sheet l)
-all-pages i (n ∷ ns) sheet h =
-    rw (all-pages (i + n) ns sheet (omega arith), ← drop-drop n i sheet) (take-append-drop n (drop i sheet))
+-- .. together the sheet, once they are as many as it has
+pub all-pages : (i : ℕ) (ps : List (List ℕ)) (sheet : List Rec) → InTurn i ps → length sheet ≤ i + total ps → pages ps sheet ≡ drop i sheet
+unfolding readOf
+all-pages i [] sheet t h = let l : length sheet ≤ i = omega arith in sym (drop-of-length-le sheet l)
+all-pages i (p ∷ ps) sheet t h =
+    let n : ℕ = min (octet 2 p) mostEntries in
+    rw (t .0, all-pages (i + n) ps sheet (t .1) (omega arith), ← drop-drop n i sheet) (take-append-drop n (drop i sheet))

@@ -52,7 +52,7 @@ pub record SeenHolds (Meets : Contract) (h : List Event) (L : Lent) : Type 0 whe
 
 -- what is read back, of what was seen from the tables L₀ on
 pub record SeenReads (Meets : Contract) (L₀ : Lent) (h : List Event) : Type 0 where
-  -- the sheet: every bind that stands by what was seen, each once, in some order
+  -- the sheet's page of binds: every bind that stands by what was seen, each once, in some order
   pub sheet : List Rec
   pub stands : SameRecords sheet (standing Binds h)
   pub once : distinct (size Binds) sheet ≡ true

@@ -49,7 +49,7 @@ unfoldable pub readOf : Filter → List ℕ → List Rec → List Rec
 readOf Index p sheet = take (min (octet 2 p) mostEntries) (drop (word 0 p) sheet)
 readOf (Part q) p sheet = take mostEntries (keep (bindNamed q p) sheet)
 
--- does the device d start a session by this call?
+-- does the device d ask for a session by this call, granted or not?
 abbrev pub Starting : DeviceAddress → Call → Type 0
 Starting d (sends m r l) = (command (fields m) ≡ Is StartSession) × (fields m .source .0 ≡ d .0)
 Starting d (admits e rights us) = ⊥
@@ -66,7 +66,7 @@ SameRecords k l = (p : Rec → Bool) → count p k ≡ count p l
 
 -- after this run from these tables
 pub record ReadBack (L : Lent) (cs : List Call) : Type 0 where
-  -- the sheet: every bind that stands, each once, in some order
+  -- the sheet's page of binds: every bind that stands, each once, in some order
   pub sheet : List Rec
   pub stands : SameRecords sheet (standing Binds (history L cs))
   pub once : distinct (size Binds) sheet ≡ true

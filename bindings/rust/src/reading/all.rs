@@ -54,7 +54,7 @@ impl<F: FnMut(&[u8], &mut [u8]) -> (Outcome, usize)> Line<F> {
     fn session(&mut self) -> Result<Option<Binds>, ReadError> {
         let (outcome, reply) = self.ask(&start(self.sender));
         let answer = match started(outcome, reply) {
-            // Then the device has no session: a hub lets who has one go on.
+            // Then this call opened none: a hub lets who has one go on.
             Err(refused @ (ReadError::Refused(_) | ReadError::Code(_))) => return Err(refused),
             Err(unclear) => Err(unclear),
             Ok(number) => self.pages(number),

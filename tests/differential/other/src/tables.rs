@@ -1,4 +1,4 @@
-//! The four tables ("Tables"), devices as "CR 2" lays them out, and binds with
+//! The tables ("Tables"), devices as "CR 2" lays them out, and binds with
 //! the special values of "CR 4"; beside them the sessions of "CR 1".
 
 use crate::sessions;
