@@ -147,12 +147,15 @@ fn length_with_name(command: Command, payload: &[u8]) -> usize
     1 + payload[0] as usize
 }
 
-// The length of a read's payload: an index of two octets and a number, or the part of a bind that it names.
+// The octets of a payload by index: a start index of 16 bits and a number.
+const INDEX: usize = 3;
+
+// The length of a read's payload: that of an index, or of the part of a bind that it names.
 fn filter_length(filter: Filter) -> usize
     ensures { λ r. ⌜ r ≡ filterLength filter ⌝ }
 {
     match filter {
-        Filter::Index => 3,
+        Filter::Index => INDEX,
         Filter::Part(part) => bind_records::part_length(part),
     }
 }

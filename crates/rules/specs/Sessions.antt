@@ -47,7 +47,7 @@ mostEntries = (longest - headerLength - entriesPlace) / size Binds
 unfoldable pub chosen : ℕ → ℕ → (Rec → Bool) → List Rec → List Rec
 chosen i n q t = take n (keep q (drop i (used t)))
 
--- the binds that a read gives: by its start index, "as many as asked, are there and fit"; by a part, the first that match as a removal matches
+-- the binds that a read gives: by index those from its start index on, as many as asked and as fit; by a part the first that match as a removal matches
 unfoldable pub entriesBy : Filter → List ℕ → List Rec → List Rec
 entriesBy Index p bs = chosen (word 0 p) (min (octet 2 p) mostEntries) (λ b. true) bs
 entriesBy (Part q) p bs = chosen 0 mostEntries (partIs q (wanted q p)) bs
