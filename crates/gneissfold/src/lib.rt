@@ -80,14 +80,8 @@ pub extern "C" fn gneissfold_release(
         ≡ ofHost (release (lent (now (devices .entry)) (now (binds .entry)) (now (groups .entry)) (now (members .entry)) (now (sessions .entry)))
         (device address)) ⌝ }
 {
-    let outcome = hub::release(
-        devices,
-        binds,
-        groups,
-        members,
-        sessions,
-        DeviceAddress(address),
-    );
+    let gone = DeviceAddress(address);
+    let outcome = hub::release(devices, binds, groups, members, sessions, gone);
     outcome.number()
 }
 
