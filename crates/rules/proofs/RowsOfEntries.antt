@@ -42,7 +42,7 @@ by-index =
     ∷ read plain 0x09 (run 3 0x00_00_05) []
     ∷ map (λ i. read holed 0x09 (run 2 i ++ 0x02 ∷ []) (take 2 (drop i (b ∷ d ∷ e ∷ [])))) (0 ∷ 1 ∷ 2 ∷ 3 ∷ 4 ∷ [])
 
--- by address, "as a removal by the same octets matches"
+-- by address, as a removal by the same octets matches
 
 abbrev any-source : List ℕ
 any-source = run 8 0x7F_FF_01_82_00_00_04_02

@@ -119,7 +119,7 @@ closings =
     ∷ closes bindManagement 0x04 (run 3 0x00_03_02) five (house (a ++ gone ++ c ++ d ++ e))
     ∷ closes bindManagement 0x05 (run 2 0x80_01) five (house (a ++ b ++ c ++ gone ++ e))
     ∷ closes bindManagement 0x06 (run 3 0x00_05_01) five (house (a ++ b ++ gone ++ d ++ e))
-    -- Delete Group, "where a bind to the group was there"
+    -- Delete Group, where a bind to the group was there
     ∷ closes groupManagement 0x02 (run 2 0x00_01) (house d) (holding devices (filled 48 []) (filled 48 (gone ++ gone ++ named 2 [])) (filled 20 []))
     ∷ leaves groupManagement 0x02 (run 2 0x00_02) five
     (holding devices (filled 48 (a ++ b ++ c ++ d ++ e)) (filled 48 (named 1 (0x53 ∷ []))) members) (0x00 ∷ [])
@@ -176,7 +176,7 @@ released-sessions =
     ∷ not-released (five-with a (S3 ++ S4)) 6 23
     ∷ []
 
--- "One lent record per in-session-of device .. (device address, 2 octets, at most 8, free ones 0xFF, none twice, each admitted or D'0000)"
+-- "One lent record per reading device .. (device address, 2 octets, at most 8, free ones 0xFF, none twice, each admitted or D'0000)"
 
 -- a device's session twice, also behind a free record and of the concentrator; no such device, one with the top bit, D'7FFF; half a record; nine records
 abbrev unsound : List Lent
