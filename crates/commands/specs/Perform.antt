@@ -16,7 +16,7 @@ judging L s k p out =
     let c : Code = judge (tables L) s k p in
     performing L (done (tables L) s k p c) k p c out
 
--- does a command that is granted change the binds? Add Bind and the Remove commands do; Delete Group "where a bind to the group was there"
+-- does a command that is granted change the binds? Add Bind and the Remove commands do; Delete Group does where a bind to the group is there
 unfoldable pub touches : Command → List Rec → List ℕ → Bool
 touches AddBind bs p = true
 touches (RemoveBinds q) bs p = true
