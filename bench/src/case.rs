@@ -148,6 +148,39 @@ fn of_any(mut state: State) -> State {
     state
 }
 
+/// How the members of the group are stored.
+#[derive(Clone, Copy)]
+enum Stored {
+    Rising,
+    Falling,
+    /// In no order.
+    Mixed,
+}
+
+const ORDERS: [(&str, Stored); 3] = [
+    ("rising", Stored::Rising),
+    ("falling", Stored::Falling),
+    ("mixed", Stored::Mixed),
+];
+
+/// The same tables with the members, all of one group, in an order by device, then unit.
+fn stored(order: Stored, mut state: State) -> State {
+    let mut records: Vec<Vec<u8>> = state.members.chunks_exact(5).map(<[u8]>::to_vec).collect();
+    records.sort();
+    match order {
+        Stored::Rising => {}
+        Stored::Falling => records.reverse(),
+        // Each record once, since 53 and 128 have no common factor; of two records the later is the lower about every other time.
+        Stored::Mixed => {
+            records = (0..records.len())
+                .map(|n| records[53 * n % records.len()].clone())
+                .collect();
+        }
+    }
+    state.members = records.concat();
+    state
+}
+
 /// The same tables with the switch in session.
 fn reading(mut state: State) -> State {
     state.sessions[..2].copy_from_slice(&SWITCH.0.to_be_bytes());
@@ -161,6 +194,22 @@ fn delivery(name: &str, to: (u16, u8), state: State, recipients: usize) -> Case 
         call: Call::Message(message(SWITCH, to, INTERFACE, 1, &[])),
         state,
         answer: (if recipients == 0 { 2 } else { 1 }, recipients),
+    }
+}
+
+/// Get Group Info of the group, and how many members it has.
+fn group_info(name: &str, state: State, members: usize) -> Case {
+    Case {
+        name: name.into(),
+        call: Call::Message(message(
+            SWITCH,
+            CONCENTRATOR,
+            GROUP_MANAGEMENT,
+            5,
+            &GROUP.to_be_bytes(),
+        )),
+        state,
+        answer: (0, 15 + 1 + 1 + 7 + 2 + 3 * members),
     }
 }
 
@@ -226,18 +275,7 @@ pub fn cases() -> Vec<Case> {
             64,
         ),
         delivery("delivery, group of 128", GROUP_ADDRESS, full(), 128),
-        Case {
-            name: "Get Group Info, 128 members".into(),
-            call: Call::Message(message(
-                SWITCH,
-                CONCENTRATOR,
-                GROUP_MANAGEMENT,
-                5,
-                &GROUP.to_be_bytes(),
-            )),
-            state: full(),
-            answer: (0, 15 + 1 + 1 + 7 + 2 + 3 * 128),
-        },
+        group_info("Get Group Info, 128 members", full(), 128),
         Case {
             name: "60 of 64 binds read back by index".into(),
             call: Call::Message(message(
@@ -275,6 +313,20 @@ pub fn cases() -> Vec<Case> {
             answer: (0, 0),
         },
     ]
+}
+
+/// Putting units in order: the same 128 members, as they may be stored.
+pub fn orders() -> Vec<Case> {
+    let tables = |order| stored(order, state(64, 64, 128, FULL));
+    let delivered = ORDERS.map(|(name, order)| {
+        let name = format!("delivery, group of 128 stored {name}");
+        delivery(&name, GROUP_ADDRESS, tables(order), 128)
+    });
+    let told = ORDERS.map(|(name, order)| {
+        let name = format!("Get Group Info, 128 stored {name}");
+        group_info(&name, tables(order), 128)
+    });
+    delivered.into_iter().chain(told).collect()
 }
 
 /// How cost grows with records: a message to a group whose members fill their table, or which has none, and no binds.

@@ -1,6 +1,6 @@
 //! Measures the part and the other reading on the same calls.
 //!
-//! bench names|growth-names  the cases, one a line
+//! bench names|order-names|growth-names  the cases, one a line
 //! bench count CASE part|other|nothing  lends the tables and makes the case's call, ten times; `nothing` makes no call, and is what to take off
 //! bench time   nanoseconds a call, for every case: part, other
 //! bench stack  octets of stack that the part's deepest call takes
@@ -111,6 +111,7 @@ fn nanoseconds(reading: Reading, case: &Case) -> f64 {
 
 fn all() -> Vec<Case> {
     let mut cases = case::cases();
+    cases.extend(case::orders());
     cases.extend(case::growth());
     cases
 }
@@ -120,6 +121,9 @@ fn main() -> ExitCode {
     let words: Vec<&str> = words.iter().map(String::as_str).collect();
     match words[..] {
         ["names"] => case::cases()
+            .iter()
+            .for_each(|case| println!("{}", case.name)),
+        ["order-names"] => case::orders()
             .iter()
             .for_each(|case| println!("{}", case.name)),
         ["growth-names"] => case::growth()
@@ -159,7 +163,7 @@ fn main() -> ExitCode {
             println!("{}\t{}", deepest.name, stack::used_by(deepest));
         }
         _ => {
-            eprintln!("usage: bench names|growth-names|count CASE part|other|nothing|time|stack");
+            eprintln!("usage: bench names|order-names|growth-names|count CASE part|other|nothing|time|stack");
             return ExitCode::from(2);
         }
     }

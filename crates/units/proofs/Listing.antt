@@ -1,7 +1,6 @@
 -- Laws of the recipients in a lent list: three octets and the unit's number, reading back what was written, one more recipient.
 use native.Mathlib.Nat.{add-zero, sub-zero}
-use native.Mathlib.Numerals.{add-one}
-use lib.Seq.{drop-append-add, take-at, take-suc-set, append-snoc}
+use lib.Seq.{drop-append-add, take-at, getD-at}
 use Rattle.words.specs.Basics.{_≡_, refl, sym, ap, _∙_, true, false, false≢true, List, [], _∷_, _++_, flatMap, append-nil, append-assoc, ℕ, zero, suc, _+_, _-_}
 use Rattle.words.specs.Basics.{_*_, _/_, _%_, _^_, _<_, _≤_, arith, eqb, length, take, drop, getD, set, length-drop, length-append, length-set}
 use Rattle.words.specs.Basics.{take-append-drop, sets, length-take-le, drop-at, drop-length, drop-drop, getD-drop, sets-eq, eqb-true}
@@ -28,7 +27,7 @@ over-over a b l h =
 
 -- A unit and its octets
 
-unit-drop : (at : ℕ) (l : List ℕ) → unitAt 0 (drop at l) ≡ unitAt at l
+pub unit-drop : (at : ℕ) (l : List ℕ) → unitAt 0 (drop at l) ≡ unitAt at l
 unfolding unitAt unitNumber word
 unit-drop at l = simp (getD-drop, add-zero)
 
@@ -38,7 +37,11 @@ unit-read u l = omega arith
 
 -- Units and their octets
 
-unitOctets-append : (us vs : List ℕ) → unitOctets (us ++ vs) ≡ unitOctets us ++ unitOctets vs
+pub unitOctets-cons : (u : ℕ) (us : List ℕ) → unitOctets (u ∷ us) ≡ threeOctets u ++ unitOctets us
+unfolding unitOctets flatMap
+unitOctets-cons u us = refl
+
+pub unitOctets-append : (us vs : List ℕ) → unitOctets (us ++ vs) ≡ unitOctets us ++ unitOctets vs
 unfolding unitOctets flatMap
 unitOctets-append [] vs = refl
 unitOctets-append (u ∷ us) vs = rw (unitOctets-append us vs) (sym (append-assoc (threeOctets u) _ _))
@@ -63,7 +66,7 @@ unfolding over
 units-written us l = units-front us (drop (length (unitOctets us)) l)
 
 -- octets that are read and written again are the same
-octets-units : (n : ℕ) (l : List ℕ) → ((i : ℕ) → getD l i 0 < 256) → 3 * n ≤ length l → unitOctets (units n l) ≡ take (3 * n) l
+pub octets-units : (n : ℕ) (l : List ℕ) → ((i : ℕ) → getD l i 0 < 256) → 3 * n ≤ length l → unitOctets (units n l) ≡ take (3 * n) l
 unfolding units unitOctets flatMap threeOctets unitAt unitNumber word
 octets-units zero l o h = refl
 octets-units (suc n) [] o h = absurd (omega arith)
@@ -80,14 +83,6 @@ octets-units (suc n) (a ∷ b ∷ c ∷ l) o h =
 pub unit-small : (at : ℕ) (l : List ℕ) → ((i : ℕ) → getD l i 0 < 256) → unitAt at l < 2 ^ 24
 unfolding unitAt unitNumber word
 unit-small at l o = omega (arith, o at, o (at + 1), o (at + 2))
-
-pub has-small : (n : ℕ) (l : List ℕ) (u : ℕ) → ((i : ℕ) → getD l i 0 < 256) → has u (units n l) ≡ true → u < 2 ^ 24
-unfolding units
-has-small zero l u o h = absurd (false≢true (sym (has-none u) ∙ h))
-has-small (suc n) l u o h =
-    or-either (eqb u (unitAt 0 l)) (has u (units n (drop 3 l))) (sym (has-cons u (unitAt 0 l) (units n (drop 3 l))) ∙ h)
-    (λ e. omega (arith, eqb-true u (unitAt 0 l) e, unit-small 0 l o))
-    (has-small n (drop 3 l) u (λ i. rw getD-drop (o (3 + i))))
 
 -- The units from place i on of the first n
 
@@ -111,30 +106,21 @@ from-end i n l h =
     let m : n - i ≡ 0 = omega arith in
     rw m
 
--- A copy of the units as numbers: the first i are written, and those from place i on are left
+-- the first k of them, and those from place k on
+pub units-split : (k n : ℕ) (l : List ℕ) → k ≤ n → units n l ≡ units k l ++ unitsFrom k n l
+unfolding units unitsFrom
+units-split zero n l h = sym (from-start n l)
+units-split (suc k) zero l h = absurd (omega arith)
+units-split (suc k) (suc n) l h =
+    let m : suc n - suc k ≡ n - k = omega arith in
+    let a : 3 * suc k ≡ 3 + 3 * k = omega arith in
+    rw (m, a, ← drop-drop (3 * k) 3 l) (ap (λ (t : List ℕ). unitAt 0 l ∷ t) (units-split k n (drop 3 l) (omega arith)))
 
-pub record Copying (n : ℕ) (l to₀ to : List ℕ) (i : ℕ) : Type 0 where
-  pub within : i ≤ n
-  pub same : length to ≡ length to₀
-  pub rest : take i to ++ unitsFrom i n l ≡ units n l
+pub units-at : (i n : ℕ) (l : List ℕ) → i < n → getD (units n l) i 0 ≡ unitAt (3 * i) l
+units-at i n l h = rw (units-split i n l (omega arith), from-at i n l h) (getD-at (units i l) (unitAt (3 * i) l) (unitsFrom (i + 1) n l) 0 i (length-units i l))
 
-pub copying-start : (n : ℕ) (l to : List ℕ) → Copying n l to to 0
-copying-start n l to = record { within = omega arith; same = refl; rest = from-start n l }
-
-module _ {n : ℕ} {l to₀ to : List ℕ} {i : ℕ} (c : Copying n l to₀ to i) where
-  pub copying-more : i < n → n ≤ length to₀ → {u : ℕ} → u ≡ unitAt (3 * i) l → Copying n l to₀ (set to i u) (i + 1)
-  copying-more h k {u} e =
-      let b : i < length to = omega (arith, c .same) in
-      record {
-        within = omega arith;
-        same = length-set to i u ∙ c .same;
-        rest = rw (add-one i, take-suc-set to i u b, append-snoc, e, ← add-one i) (rw (from-at i n l h) at (c .rest));
-      }
-
-  pub copying-end : n ≤ i → take n to ≡ units n l
-  copying-end h =
-      let e : i ≡ n = omega arith in
-      sym (append-nil (take n to)) ∙ rw (from-end n n l (omega arith)) at (rw e at (c .rest))
+pub units-more : (n : ℕ) (l : List ℕ) → units (n + 1) l ≡ units n l ++ unitAt (3 * n) l ∷ []
+units-more n l = units-split n (n + 1) l (omega arith) ∙ rw (from-at n (n + 1) l (omega arith), from-end (n + 1) (n + 1) l (omega arith))
 
 -- The state of a list: one more unit behind the others
 
