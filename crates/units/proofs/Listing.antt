@@ -1,15 +1,14 @@
 -- Laws of the recipients in a lent list: three octets and the unit's number, reading back what was written, one more recipient.
 use native.Mathlib.Nat.{add-zero, sub-zero}
 use lib.Seq.{drop-append-add, take-at, getD-at}
-use Rattle.words.specs.Basics.{_≡_, refl, sym, ap, _∙_, true, false, false≢true, List, [], _∷_, _++_, flatMap, append-nil, append-assoc, ℕ, zero, suc, _+_, _-_}
-use Rattle.words.specs.Basics.{_*_, _/_, _%_, _^_, _<_, _≤_, arith, eqb, length, take, drop, getD, set, length-drop, length-append, length-set}
-use Rattle.words.specs.Basics.{take-append-drop, sets, length-take-le, drop-at, drop-length, drop-drop, getD-drop, sets-eq, eqb-true}
+use Rattle.words.specs.Basics.{_≡_, refl, sym, ap, _∙_, true, false, List, [], _∷_, _++_, flatMap, append-nil, append-assoc, ℕ, zero, suc, _+_, _-_, _*_, _/_}
+use Rattle.words.specs.Basics.{_%_, _^_, _<_, _≤_, arith, length, take, drop, getD, length-drop, length-append, take-append-drop, sets, length-take-le, drop-at}
+use Rattle.words.specs.Basics.{drop-length, drop-drop, getD-drop, sets-eq}
 use Rattle.rules.specs.Lists.{has}
 use Rattle.rules.specs.Octets.{word, over}
 use Rattle.rules.specs.Units.{unitNumber, unitAt, threeOctets, unitOctets}
 use Rattle.rules.proofs.Order.{length-unitOctets}
 use Rattle.units.specs.Listing.{units, addedAll, Taken, Enough}
-use Rattle.units.proofs.Units.{or-either, has-none, has-cons}
 use Rattle.units.proofs.Taking.{added-there, added-new, addedAll-grows}
 
 -- Octets written over octets
