@@ -3,10 +3,8 @@
 //! bench names|order-names|growth-names  the cases, one a line
 //! bench count CASE part|other|nothing  lends the tables and makes the case's call, ten times; `nothing` makes no call, and is what to take off
 //! bench time   nanoseconds a call, for every case: part, other
-//! bench stack  octets of stack that the part's deepest call takes
 
 mod case;
-mod stack;
 
 use case::{Call, Case, State};
 use std::hint::black_box;
@@ -152,18 +150,10 @@ fn main() -> ExitCode {
                 println!("{}\t{part:.0}\t{other:.0}", case.name);
             }
         }
-        ["stack"] => {
-            let cases = case::cases();
-            // Of the cases that go equally deep, the first.
-            let deepest = cases
-                .iter()
-                .rev()
-                .max_by_key(|case| stack::used_by(case))
-                .expect("a case");
-            println!("{}\t{}", deepest.name, stack::used_by(deepest));
-        }
         _ => {
-            eprintln!("usage: bench names|order-names|growth-names|count CASE part|other|nothing|time|stack");
+            eprintln!(
+                "usage: bench names|order-names|growth-names|count CASE part|other|nothing|time"
+            );
             return ExitCode::from(2);
         }
     }
