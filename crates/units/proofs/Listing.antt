@@ -123,7 +123,7 @@ units-more n l = units-split n (n + 1) l (omega arith) ∙ rw (from-at n (n + 1)
 
 -- The state of a list: one more unit behind the others
 
-pub written-more : (us l₀ : List ℕ) {l : List ℕ} {n : ℕ} (u : ℕ) → l ≡ over (unitOctets us) l₀ → n ≡ length us → 3 * n + 3 ≤ length l₀
+written-more : (us l₀ : List ℕ) {l : List ℕ} {n : ℕ} (u : ℕ) → l ≡ over (unitOctets us) l₀ → n ≡ length us → 3 * n + 3 ≤ length l₀
     → sets l (3 * n) (threeOctets u) ≡ over (unitOctets (us ++ u ∷ [])) l₀
 unfolding over threeOctets
 written-more us l₀ {l} {n} u e c h =
