@@ -17,12 +17,14 @@ enum {
     OTHERS = DEVICES - 1
 };
 
-static uint8_t devices[GNEISSFOLD_DEVICES_LENGTH];
-static uint8_t binds[GNEISSFOLD_BINDS_LENGTH];
-static uint8_t groups[GNEISSFOLD_GROUPS_LENGTH];
-static uint8_t members[GNEISSFOLD_MEMBERS_LENGTH];
-static uint8_t sessions[GNEISSFOLD_SESSIONS_LENGTH];
-static uint8_t old_devices[GNEISSFOLD_OLD_DEVICES_LENGTH];
+static struct {
+    uint8_t devices[GNEISSFOLD_DEVICES_LENGTH];
+    uint8_t binds[GNEISSFOLD_BINDS_LENGTH];
+    uint8_t groups[GNEISSFOLD_GROUPS_LENGTH];
+    uint8_t members[GNEISSFOLD_MEMBERS_LENGTH];
+    uint8_t sessions[GNEISSFOLD_SESSIONS_LENGTH];
+    uint8_t old_devices[GNEISSFOLD_OLD_DEVICES_LENGTH];
+} tables;
 static uint8_t reply[GNEISSFOLD_LONGEST];
 static uint8_t list[GNEISSFOLD_LIST_LENGTH];
 static uint16_t fields[GNEISSFOLD_FIELDS];
@@ -35,31 +37,26 @@ static size_t count;
 /* Devices 1 to 63 with units 0 to 3, of which the first has a session; binds of its unit 0; groups 1 to 15; members of the first. */
 static void fill(void)
 {
-    memset(devices, GNEISSFOLD_FREE, sizeof devices);
-    memset(binds, GNEISSFOLD_FREE, sizeof binds);
-    memset(groups, GNEISSFOLD_FREE, sizeof groups);
-    memset(members, GNEISSFOLD_FREE, sizeof members);
-    memset(sessions, GNEISSFOLD_FREE, sizeof sessions);
-    memset(old_devices, GNEISSFOLD_FREE, sizeof old_devices);
+    memset(&tables, GNEISSFOLD_FREE, sizeof tables);
     for (uint8_t n = 0; n < DEVICES; n++) {
         const uint8_t device[GNEISSFOLD_DEVICE_SIZE] = {0, 1 + n, 1, 0, 0x0F};
         const uint8_t old_device[GNEISSFOLD_OLD_DEVICE_SIZE] = {0, 1 + n, 1, 3};
-        memcpy(devices + sizeof device * n, device, sizeof device);
-        memcpy(old_devices + sizeof old_device * n, old_device, sizeof old_device);
+        memcpy(tables.devices + sizeof device * n, device, sizeof device);
+        memcpy(tables.old_devices + sizeof old_device * n, old_device, sizeof old_device);
     }
     for (uint8_t n = 0; n < BINDS; n++) {
         const uint8_t bind[GNEISSFOLD_BIND_SIZE] = {0, 1, 0, 0x82, 0, 0, 2 + n % OTHERS, n / OTHERS};
-        memcpy(binds + sizeof bind * n, bind, sizeof bind);
+        memcpy(tables.binds + sizeof bind * n, bind, sizeof bind);
     }
     for (uint8_t n = 0; n < GROUPS; n++) {
         const uint8_t group[GNEISSFOLD_GROUP_SIZE] = {0, 1 + n, 7, 'B', 'e', 'd', 'r', 'o', 'o', 'm'};
-        memcpy(groups + sizeof group * n, group, sizeof group);
+        memcpy(tables.groups + sizeof group * n, group, sizeof group);
     }
     for (uint8_t n = 0; n < MEMBERS; n++) {
         const uint8_t member[GNEISSFOLD_MEMBER_SIZE] = {0, 1, 0, 2 + n % OTHERS, n / OTHERS};
-        memcpy(members + sizeof member * n, member, sizeof member);
+        memcpy(tables.members + sizeof member * n, member, sizeof member);
     }
-    memcpy(sessions, devices, GNEISSFOLD_SESSION_SIZE);
+    memcpy(tables.sessions, tables.devices, GNEISSFOLD_SESSION_SIZE);
 }
 
 static void call_nothing(void)
@@ -68,26 +65,27 @@ static void call_nothing(void)
 
 static void call_message(void)
 {
-    outcome = gneissfold_message(devices, sizeof devices, binds, sizeof binds, groups, sizeof groups, members, sizeof members,
-                                 sessions, sizeof sessions, message, message_length, reply, sizeof reply, list, sizeof list, &count);
+    outcome = gneissfold_message(tables.devices, sizeof tables.devices, tables.binds, sizeof tables.binds, tables.groups, sizeof tables.groups,
+                                 tables.members, sizeof tables.members, tables.sessions, sizeof tables.sessions, message, message_length,
+                                 reply, sizeof reply, list, sizeof list, &count);
 }
 
 static void call_admit(void)
 {
     static const uint8_t units[GNEISSFOLD_UNITS_LENGTH] = {1};
-    outcome = gneissfold_admit(devices, sizeof devices, binds, sizeof binds, groups, sizeof groups, members, sizeof members,
-                               sessions, sizeof sessions, 1 + DEVICES, 0, units);
+    outcome = gneissfold_admit(tables.devices, sizeof tables.devices, tables.binds, sizeof tables.binds, tables.groups, sizeof tables.groups,
+                               tables.members, sizeof tables.members, tables.sessions, sizeof tables.sessions, 1 + DEVICES, 0, units);
 }
 
 static void call_release(void)
 {
-    outcome = gneissfold_release(devices, sizeof devices, binds, sizeof binds, groups, sizeof groups, members, sizeof members,
-                                 sessions, sizeof sessions, 2);
+    outcome = gneissfold_release(tables.devices, sizeof tables.devices, tables.binds, sizeof tables.binds, tables.groups, sizeof tables.groups,
+                                 tables.members, sizeof tables.members, tables.sessions, sizeof tables.sessions, 2);
 }
 
 static void call_carry_over(void)
 {
-    outcome = gneissfold_carry_over(old_devices, sizeof old_devices, devices, sizeof devices);
+    outcome = gneissfold_carry_over(tables.old_devices, sizeof tables.old_devices, tables.devices, sizeof tables.devices);
 }
 
 static void call_copy(void)

@@ -155,15 +155,15 @@ enum Stored {
     Falling,
     /// In no order.
     Mixed,
-    /// The lowest first, the others falling: each of them has to be put between the first and all others.
-    Worst,
+    /// The lowest first, the others falling: each of them goes between the first and all others.
+    LowestFirst,
 }
 
 const ORDERS: [(&str, Stored); 4] = [
     ("rising", Stored::Rising),
     ("falling", Stored::Falling),
     ("mixed", Stored::Mixed),
-    ("at worst", Stored::Worst),
+    ("lowest first", Stored::LowestFirst),
 ];
 
 /// The same tables with the members, all of one group, in an order by device, then unit.
@@ -179,7 +179,7 @@ fn stored(order: Stored, mut state: State) -> State {
                 .map(|n| records[53 * n % records.len()].clone())
                 .collect();
         }
-        Stored::Worst => records[1..].reverse(),
+        Stored::LowestFirst => records[1..].reverse(),
     }
     state.members = records.concat();
     state
