@@ -28,7 +28,7 @@ pub fn act(
 {
     match command {
         Command::AddBind => {
-            let code = bind_commands::add_bind(devices, binds, groups, payload);
+            let code = bind_commands::add_bind(binds, payload);
             changing::write_code(out, code)
         }
         Command::RemoveBinds(part) => {

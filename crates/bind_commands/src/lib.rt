@@ -3,16 +3,16 @@
 use layouts::BIND;
 use words::BindPart;
 use words::Code;
+use words::Reason;
 ghost use Rattle.words.specs.Basics.{_≡_, _%_, length};
-ghost use Rattle.words.specs.Names.{invalidArgument};
 ghost use Rattle.rules.specs.Types.{Devices, Binds, Groups};
-ghost use Rattle.rules.specs.Lists.{ask, any};
+ghost use Rattle.rules.specs.Lists.{any};
 ghost use Rattle.rules.specs.Tables.{used, matches, store, wipe, written};
 ghost use Rattle.rules.specs.Layout.{size, partLength, partIs};
 ghost use Rattle.rules.specs.Frame.{table};
-ghost use Rattle.rules.specs.Sound.{bindFits};
 ghost use Rattle.rules.specs.Payloads.{wanted, bindOf};
-ghost use Rattle.rules.specs.Commands.{addition, removal};
+ghost use Rattle.rules.specs.Faults.{addFault};
+ghost use Rattle.rules.specs.Commands.{roomIn, removal};
 ghost use Rattle.changing.specs.Changing.{coded, coding};
 
 // Is the bind there?
@@ -39,33 +39,37 @@ fn store_bind(binds: &mut [u8], bind: [u8; 8])
     records::store(binds, BIND, &bind);
 }
 
-// Adds a bind, or says why not: it must not be there, and one record must be free.
-fn add(binds: &mut [u8], bind: [u8; 8]) -> Code
-    requires { ⌜ length (now binds) % size Binds ≡ 0 ⌝ }
-    ensures { λ r. ⌜ coded r (now (binds .exit)) ≡ coding (size Binds) (addition bind (table Binds (now (binds .entry)))) (store bind) (now (binds .entry)) ⌝ }
+// What is wrong with an Add Bind: its length, its fields, or that the bind is there.
+pub fn add_fault(devices: &[u8], binds: &[u8], groups: &[u8], payload: &[u8]) -> Reason
+    ensures { λ r. ⌜ r
+        ≡ addFault (table Devices (now (devices .entry))) (table Binds (now (binds .entry))) (table Groups (now (groups .entry))) (now (payload .entry)) ⌝ }
 {
-    let there = bind_there(binds, bind);
-    let room = records::has_room(binds, BIND);
-    let code = changing::addition(there, room);
-    if code.0 == Code::OK.0 {
-        store_bind(binds, bind);
+    if payload.len() != BIND {
+        return Reason::PayloadLength;
     }
-    code
+    let bind = payloads::bind_of(payload);
+    let fault = faults::bind_fault(bind, devices, groups);
+    if fault.number() != 0 {
+        return fault;
+    }
+    if bind_there(binds, bind) {
+        return Reason::AlreadyPresent;
+    }
+    Reason::NoFault
 }
 
-// Add Bind: the payload's eight octets, if they meet the field rules.
-pub fn add_bind(devices: &[u8], binds: &mut [u8], groups: &[u8], payload: &[u8]) -> Code
+// Add Bind, of which nothing is wrong: the payload's eight octets, if one record is free.
+pub fn add_bind(binds: &mut [u8], payload: &[u8]) -> Code
     requires { ⌜ (length (now payload) ≡ size Binds) × (length (now binds) % size Binds ≡ 0) ⌝ }
     ensures { λ r. ⌜ coded r (now (binds .exit))
-        ≡ coding (size Binds) (ask (bindFits (table Devices (now (devices .entry))) (table Groups (now (groups .entry))) (bindOf (now (payload .entry))))
-        invalidArgument (addition (bindOf (now (payload .entry))) (table Binds (now (binds .entry)))))
-        (store (bindOf (now (payload .entry)))) (now (binds .entry)) ⌝ }
+        ≡ coding (size Binds) (roomIn (table Binds (now (binds .entry)))) (store (bindOf (now (payload .entry)))) (now (binds .entry)) ⌝ }
 {
-    let bind = payloads::bind_of(payload);
-    if !fitting::bind_fits(bind, devices, groups) {
-        return Code::invalid_argument();
+    if !records::has_room(binds, BIND) {
+        return Code::not_enough_resources();
     }
-    add(binds, bind)
+    let bind = payloads::bind_of(payload);
+    store_bind(binds, bind);
+    Code::ok()
 }
 
 // Remove Bind and the four forms by ..: all binds whose part is the payload's become free.

@@ -1,13 +1,13 @@
 -- A command whole: all checks, its own part, and sessions closed where it changes the binds.
 use Rattle.words.specs.Basics.{Bool, true, false, List, ℕ}
-use Rattle.rules.specs.Types.{DeviceAddress, Code, Command, AddBind, RemoveBinds, StartSession, EndSession, GetEntries, CreateGroup, DeleteGroup, AddToGroup}
-use Rattle.rules.specs.Types.{RemoveFromGroup, GetGroupInfo}
+use Rattle.rules.specs.Types.{DeviceAddress, Code, Reason, Command, AddBind, RemoveBinds, StartSession, EndSession, GetEntries, CreateGroup}
+use Rattle.rules.specs.Types.{DeleteGroup, AddToGroup, RemoveFromGroup, GetGroupInfo}
 use Rattle.rules.specs.Lists.{any}
 use Rattle.rules.specs.Tables.{Rec, used}
 use Rattle.rules.specs.Layout.{toThisGroup}
 use Rattle.rules.specs.Frame.{Lent, tables}
 use Rattle.rules.specs.Payloads.{groupNamed}
-use Rattle.rules.specs.Commands.{judge, done}
+use Rattle.rules.specs.Commands.{judge, explained, done}
 use Rattle.acting.specs.Acting.{Performed, performing}
 
 -- a command with the code of all checks, and its effect whole
@@ -15,6 +15,10 @@ abbrev pub judging : Lent → DeviceAddress → Command → List ℕ → List �
 judging L s k p out =
     let c : Code = judge (tables L) s k p in
     performing L (done (tables L) s k p c) k p c out
+
+-- what its caller is told of that code
+abbrev pub reasoning : Lent → DeviceAddress → Command → List ℕ → Reason
+reasoning L s k p = explained (tables L) k p (judge (tables L) s k p)
 
 -- does a command that is granted change the binds? Add Bind and the Remove commands do; Delete Group does where a bind to the group is there
 unfoldable pub touches : Command → List Rec → List ℕ → Bool

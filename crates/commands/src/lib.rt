@@ -1,16 +1,44 @@
-// A command whole: rights, length, then its own handler (document 01, Commands and codes), and sessions closed where it changed the binds (document 02,
-// request 1). It gets the tables that commands use, whatever else is lent.
+// A command whole: rights, length and what its caller is told (document 02, request 6), then its own handler (document 01, Commands and codes), and
+// sessions closed where it changed the binds (document 02, request 1). It gets the tables that commands use, whatever else is lent.
 use words::Code;
 use words::Command;
 use words::DeviceAddress;
-ghost use Rattle.words.specs.Basics.{_≡_, true, cond, _+_, _≤_, length};
+use words::Reason;
+ghost use Rattle.words.specs.Basics.{_≡_, true, cond, [], _∷_, _+_, _≤_, length};
 ghost use Rattle.words.specs.Names.{headerLength, longest};
 ghost use Rattle.rules.specs.Types.{Devices, Binds};
-ghost use Rattle.rules.specs.Frame.{Lent, beside, table};
+ghost use Rattle.rules.specs.Octets.{over};
+ghost use Rattle.rules.specs.Frame.{Lent, beside, table, tables};
 ghost use Rattle.rules.specs.Exists.{hasRights};
 ghost use Rattle.rules.specs.Commands.{row};
 ghost use Rattle.acting.specs.Acting.{Workable, performed};
-ghost use Rattle.commands.specs.Perform.{judging, touches};
+ghost use Rattle.commands.specs.Perform.{judging, reasoning, touches};
+
+// What performing a command gives: how many octets its reply has behind the header, and why an Add Bind was answered 0x02.
+pub struct Performed {
+    pub length: usize,
+    pub reason: Reason,
+}
+
+// What is wrong with the command's payload, where its caller is told: of Add Bind alone.
+fn fault_of(devices: &[u8], binds: &[u8], groups: &[u8], command: Command, payload: &[u8]) -> Reason
+    ensures { λ r. ⌜ ((L : Lent)
+        → r ≡ row command .fault (tables (beside L (now (devices .entry)) (now (binds .entry)) (now (groups .entry)) (L .members) (L .sessions)))
+        (now (payload .entry))) ⌝ }
+{
+    match command {
+        Command::AddBind => bind_commands::add_fault(devices, binds, groups, payload),
+        Command::RemoveBinds(_) => Reason::NoFault,
+        Command::StartSession => Reason::NoFault,
+        Command::EndSession => Reason::NoFault,
+        Command::GetEntries(_) => Reason::NoFault,
+        Command::CreateGroup => Reason::NoFault,
+        Command::DeleteGroup => Reason::NoFault,
+        Command::AddToGroup => Reason::NoFault,
+        Command::RemoveFromGroup => Reason::NoFault,
+        Command::GetGroupInfo => Reason::NoFault,
+    }
+}
 
 // Will the command change the binds, if it is granted?
 fn touches(binds: &[u8], command: Command, payload: &[u8]) -> bool
@@ -41,6 +69,18 @@ fn rights_fit(devices: &[u8], source: DeviceAddress, asked: bool) -> bool
     existing::has_rights(devices, source)
 }
 
+// A command that is refused: its code is the whole reply.
+fn refuse(out: &mut [u8], code: Code, reason: Reason) -> Performed
+    requires { ⌜ 1 ≤ length (now out) ⌝ }
+    ensures { λ r. ⌜ (r .length ≡ 1) × (r .reason ≡ reason) × (now (out .exit) ≡ over (code .0 ∷ []) (now (out .entry))) ⌝ }
+{
+    let n = changing::write_code(out, code);
+    Performed {
+        length: n,
+        reason: reason,
+    }
+}
+
 // Performs a command of the device `source` on sound tables. The payload of its reply goes over `out`, the part of the lent reply behind the header.
 pub fn perform(
     devices: &[u8],
@@ -52,19 +92,27 @@ pub fn perform(
     command: Command,
     payload: &[u8],
     out: &mut [u8],
-) -> usize
+) -> Performed
     requires { ⌜ Workable (now devices) (now binds) (now groups) (now members) (now sessions) × (longest ≤ headerLength + length (now out)) ⌝ }
     ensures { λ r. ⌜ ((L : Lent)
-        → performed r (beside L (now (devices .entry)) (now (binds .exit)) (now (groups .exit)) (now (members .exit)) (now (sessions .exit))) (now (out .exit))
+        → (performed (r .length) (beside L (now (devices .entry)) (now (binds .exit)) (now (groups .exit)) (now (members .exit)) (now (sessions .exit)))
+        (now (out .exit))
         ≡ judging (beside L (now (devices .entry)) (now (binds .entry)) (now (groups .entry)) (now (members .entry)) (now (sessions .entry))) source command
-        (now (payload .entry)) (now (out .entry))) ⌝ }
+        (now (payload .entry)) (now (out .entry)))
+        × (r .reason
+        ≡ reasoning (beside L (now (devices .entry)) (now (binds .entry)) (now (groups .entry)) (now (members .entry)) (now (sessions .entry))) source command
+        (now (payload .entry)))) ⌝ }
 {
     let asked = decoding::demands(command, payload);
     if !rights_fit(devices, source, asked.rights) {
-        return changing::write_code(out, Code::not_authorized());
+        return refuse(out, Code::not_authorized(), Reason::NoFault);
     }
+    let reason = fault_of(devices, binds, groups, command, payload);
     if payload.len() != asked.length {
-        return changing::write_code(out, Code::invalid_argument());
+        return refuse(out, Code::invalid_argument(), reason);
+    }
+    if reason.number() != 0 {
+        return refuse(out, Code::invalid_argument(), reason);
     }
     let touching = touches(binds, command, payload);
     let n = acting::act(
@@ -79,5 +127,8 @@ pub fn perform(
         out,
     );
     sessions::close_all(sessions, touching & (out[0] == Code::OK.0));
-    n
+    Performed {
+        length: n,
+        reason: Reason::NoFault,
+    }
 }

@@ -1,7 +1,4 @@
 // When the fields of a record are in range (document 01, Tables): the rules of a table that is sound, and those of Add Bind and Add to Group.
-mod binds;
-
-pub use binds::bind_fits;
 use device_records::RIGHTS;
 use device_records::UNITS;
 use device_records::ZERO;
@@ -89,7 +86,7 @@ pub fn fits(kind: Kind, rec: &[u8], devices: &[u8], groups: &[u8]) -> bool
 {
     match kind {
         Kind::Devices => device_fits(rec),
-        Kind::Binds => bind_fits(bind_records::bind_at(rec, 0), devices, groups),
+        Kind::Binds => faults::bind_fits(bind_records::bind_at(rec, 0), devices, groups),
         Kind::Groups => group_fits(rec),
         Kind::Members => member_fits(layouts::member_at(rec, 0), devices, groups),
         Kind::Sessions => session_fits(rec, devices),

@@ -2,16 +2,16 @@
 use borrow.Rule.Slice.PartMut.{midOf, putMid}
 use Rattle.words.specs.Basics.{_≡_, ap, List, [], _∷_, flatMap, ℕ, _+_, _-_, _≤_, arith, length, drop, length-drop, length-take-le}
 use Rattle.words.specs.Names.{headerLength, longest}
-use Rattle.rules.specs.Types.{Fields, Command, Done, Forwarded, Nobody}
+use Rattle.rules.specs.Types.{Fields, Reason, Command, Done, Forwarded, Nobody}
 use Rattle.rules.specs.Octets.{over}
 use Rattle.rules.specs.Units.{unitOctets}
 use Rattle.rules.specs.Frame.{Lent, nothingLent, tables, changed}
 use Rattle.rules.specs.Message.{header, answering}
 use Rattle.rules.specs.Commands.{judge, done, replyPayload}
-use Rattle.rules.specs.Calls.{answer, answered, handled, forwarded}
+use Rattle.rules.specs.Calls.{answer, explaining, answered, handled, forwarded}
 use Rattle.messages.proofs.Replies.{reply-behind, within-room}
 use Rattle.acting.specs.Acting.{Performed, performed, performing}
-use Rattle.commands.specs.Perform.{judging}
+use Rattle.commands.specs.Perform.{judging, reasoning}
 use Rattle.units.specs.Listing.{Listing}
 
 -- Serving
@@ -41,13 +41,14 @@ module _ (L : Lent) (k : Command) (f : Fields) (p old : List ℕ) {L' : Lent} {p
   performed-short = omega (arith, within-room payloadOf (behind old) written-over s, written-length, behind-length old h)
 
   -- the payload behind, the header before it
-  pub serves : answer (Done (headerLength + n)) L' (over (header (answering f n)) (putMid headerLength (longest - headerLength) old part)) []
+  pub serves : {f' : Reason} → f' ≡ reasoning L (f .source) k p → explaining (Done (headerLength + n)) f' L' (over (header (answering f n)) (putMid headerLength (longest - headerLength) old part)) []
       ≡ handled L k f p old []
   unfolding handled answered performing
-  serves =
+  serves e =
       let eL : L' ≡ changed (done (tables L) (f .source) k p (judge (tables L) (f .source) k p)) L = ap (λ (y : Performed). y .tables) d in
       rw (
         written-length,
+        e,
         eL,
         reply-behind (longest - headerLength) f payloadOf old part (omega arith) (omega (arith, performed-short, written-length)) written-over,
       )

@@ -3,11 +3,12 @@ use words::Command;
 use words::Destination;
 use words::Fields;
 use words::Outcome;
+use words::Told;
 ghost use Rattle.words.specs.Basics.{_≡_, []};
 ghost use Rattle.rules.specs.Types.{Binds, Members};
 ghost use Rattle.rules.specs.Frame.{Lent, nothingLent, beside, table};
 ghost use Rattle.rules.specs.Recipients.{recipients};
-ghost use Rattle.rules.specs.Calls.{answer, handled, forwarded};
+ghost use Rattle.rules.specs.Calls.{answer, explaining, handled, forwarded};
 ghost use Rattle.delivery.specs.Delivering.{Deliverable};
 ghost use Rattle.following.specs.Following.{Servable};
 
@@ -22,15 +23,15 @@ pub fn serve(
     f: Fields,
     payload: &[u8],
     reply: &mut [u8],
-) -> Outcome
+) -> Told
     requires { ⌜ Servable (now devices) (now binds) (now groups) (now members) (now sessions) f (now reply) ⌝ }
     ensures { λ r. ⌜ ((L : Lent)
-        → answer r (beside L (now (devices .entry)) (now (binds .exit)) (now (groups .exit)) (now (members .exit)) (now (sessions .exit)))
+        → explaining (r .outcome) (r .reason) (beside L (now (devices .entry)) (now (binds .exit)) (now (groups .exit)) (now (members .exit)) (now (sessions .exit)))
         (now (reply .exit)) []
         ≡ handled (beside L (now (devices .entry)) (now (binds .entry)) (now (groups .entry)) (now (members .entry)) (now (sessions .entry))) command f
         (now (payload .entry)) (now (reply .entry)) []) ⌝ }
 {
-    let n = commands::perform(
+    let done = commands::perform(
         devices,
         binds,
         groups,
@@ -41,8 +42,12 @@ pub fn serve(
         payload,
         &mut reply[Fields::HEADER..Fields::LONGEST],
     );
-    messages::write_header(reply, f, n);
-    Outcome::Done(Fields::HEADER + n)
+    let reason = done.reason;
+    messages::write_header(reply, f, done.length);
+    Told {
+        outcome: Outcome::Done(Fields::HEADER + done.length),
+        reason: reason,
+    }
 }
 
 // Lists the recipients. Where there is none, nothing is written.

@@ -9,8 +9,8 @@ use Rattle.words.specs.Basics.{_≡_, true, List, now}
 use Rattle.words.specs.Names.{device}
 use Rattle.rules.specs.Lists.{all}
 use Rattle.rules.specs.Frame.{Lent, lent}
-use Rattle.rules.specs.History.{Call, sends, admits, releases, Said, after, Event, history, octetsOnly, freeTables}
-use Rattle.rules.specs.Seen.{saidBy, saidByHost, Seen, calls, SeenHolds, SeenReads}
+use Rattle.rules.specs.History.{Call, sends, admits, releases, Said, saidBy, saidByHost, after, Event, history, octetsOnly, freeTables}
+use Rattle.rules.specs.Seen.{Seen, calls, SeenHolds, SeenReads}
 use Rattle.rules.proofs.Hosted.{value-admit, value-release}
 use Rattle.rules.proofs.Seen as seen
 use Rattle.gneissfold.proofs.Telling.{answerOf, hostAnswerOf, message-told, host-told}

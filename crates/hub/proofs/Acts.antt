@@ -3,11 +3,11 @@ use borrow.Rule.Slice.PartMut.{midOf}
 use Rattle.words.specs.Basics.{_≡_, sym, ap, _∙_, List, [], _∷_, ℕ, _-_, _≤_, length, leb-true}
 use Rattle.words.specs.Names.{headerLength, longest}
 use Rattle.words.specs.declared.Destination.{Destination}
-use Rattle.rules.specs.Types.{Command, Binds, Members, Outcome, Way, Refuse, Serve, Forward, Reading}
+use Rattle.rules.specs.Types.{Command, Binds, Members, Outcome, Reason, NoFault, Told, Way, Refuse, Serve, Forward, Reading}
 use Rattle.rules.specs.Frame.{Lent, nothingLent, beside, tables}
 use Rattle.rules.specs.Message.{fields, payload, reads, reading}
 use Rattle.rules.specs.Recipients.{recipients}
-use Rattle.rules.specs.Calls.{roomy, way, Answer, answer, answered, handled, forwarded, follow, message}
+use Rattle.rules.specs.Calls.{roomy, way, Answer, answer, explaining, answered, handled, forwarded, follow, message}
 use Rattle.rules.proofs.Lists.{split, ask-pass}
 use Rattle.rules.proofs.Ways.{Acting, serve-known, forward-known}
 use Rattle.messages.proofs.Reading.{long-enough}
@@ -21,12 +21,16 @@ fields-read : {L : Lent} {m r l : List ℕ} → Acting L m r l → {y : Reading}
 unfolding reading reads
 fields-read a e = rw (ask-pass _ _ (a .length), ask-pass _ _ (a .data-length), ask-pass _ _ (a .type)) at (ap (λ (x : Reading). x .fields) e)
 
+-- what is told where there is nothing to explain
+abbrev Unexplained : Told → Outcome → Type 0
+Unexplained t o = (t .outcome ≡ o) × (t .reason ≡ NoFault)
+
 -- x is the way that was decided
 
 module _ (L : Lent) (m r l : List ℕ) {x : Way} (e : x ≡ way L m r l) where
-  pub refuses : {o : Outcome} → x ≡ Refuse o → answer o L r l ≡ message L m r l
+  pub refuses : {o : Outcome} {t : Told} → x ≡ Refuse o → Unexplained t o → explaining (t .outcome) (t .reason) L r l ≡ message L m r l
   unfolding message follow
-  refuses w = rw (sym e ∙ w)
+  refuses w u = rw (u .0, u .1, sym e ∙ w)
 
   -- a command: the message has a header, the command can be served, and what serving it leaves is the answer
 
@@ -46,13 +50,13 @@ module _ (L : Lent) (m r l : List ℕ) {x : Way} (e : x ≡ way L m r l) where
     }
 
     -- whatever else is lent stays
-    pub handled-whole : {y : Reading} {o : Outcome} {bs gs ms ss r' : List ℕ} → y ≡ reading m
-        → ((X : Lent) → answer o (beside X (L .devices) bs gs ms ss) r' []
+    pub handled-whole : {y : Reading} {o : Outcome} {v : Reason} {bs gs ms ss r' : List ℕ} → y ≡ reading m
+        → ((X : Lent) → explaining o v (beside X (L .devices) bs gs ms ss) r' []
         ≡ handled (beside X (L .devices) (L .binds) (L .groups) (L .members) (L .sessions)) k (y .fields) (midOf headerLength (length m - headerLength) m) r [])
-        → answer o (beside L (L .devices) bs gs ms ss) r' l ≡ message L m r l
+        → explaining o v (beside L (L .devices) bs gs ms ss) r' l ≡ message L m r l
     unfolding message follow handled answered payload
     handled-whole q a =
-        rw (sym e ∙ w, ← fields-read acts q, ← rest-is headerLength m) (ap (λ (z : Answer). answer (z .outcome) (z .tables) (z .reply) l) (a L))
+        rw (sym e ∙ w, ← fields-read acts q, ← rest-is headerLength m) (ap (λ (z : Answer). explaining (z .outcome) (z .reason) (z .tables) (z .reply) l) (a L))
 
   -- a message to hand on: there is room for its recipients, and they are the answer, which does not depend on what else is lent
 
@@ -63,11 +67,12 @@ module _ (L : Lent) (m r l : List ℕ) {x : Way} (e : x ≡ way L m r l) where
     pub listable : Deliverable (L .binds) (L .members) l
     listable = deliverable L r l (hands .roomy) (hands .sound)
 
-    pub forwarded-whole : {y : Reading} {o : Outcome} {l' : List ℕ} → y ≡ reading m
+    pub forwarded-whole : {y : Reading} {o : Outcome} {t : Told} {l' : List ℕ} → y ≡ reading m
         → answer o nothingLent [] l' ≡ forwarded (recipients (tables L Binds) (tables L Members) to (y .fields)) nothingLent [] l
-        → answer o L r l' ≡ message L m r l
+        → Unexplained t o → explaining (t .outcome) (t .reason) L r l' ≡ message L m r l
     unfolding message follow forwarded
-    forwarded-whole {y} {o} {l'} q a = rw (sym e ∙ w, ← fields-read hands q) (step (recipients (tables L Binds) (tables L Members) to (y .fields)) a)
+    forwarded-whole {y} {o} {l' = l'} q a u =
+        rw (u .0, u .1, sym e ∙ w, ← fields-read hands q) (step (recipients (tables L Binds) (tables L Members) to (y .fields)) a)
       where
         step : (us : List ℕ) → answer o nothingLent [] l' ≡ forwarded us nothingLent [] l → answer o L r l' ≡ forwarded us L r l
         step [] a = ap (λ (z : Answer). answer (z .outcome) L r (z .list)) a

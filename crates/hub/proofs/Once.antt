@@ -5,16 +5,16 @@ use borrow.Fn.Kinds as K
 use denote.Triple.Clauses
 use Rattle.words.specs.Basics.{_≡_, sym, _∙_, now}
 use Rattle.rules.specs.Frame.{lent}
-use Rattle.rules.specs.Calls.{Answer, answer}
+use Rattle.rules.specs.Calls.{Answer, explaining}
 use Rattle.hub.proofs.message
 use Rattle.hub.proofs.message.Kinds as message-kinds
 use Rattle.hub.proofs.message.Reads as message-reads
 
--- what the call answers and leaves: its outcome, and what was lent to be written as it is at exit
+-- what the call answers and leaves: its outcome, the reason, and what was lent to be written as it is at exit
 abbrev pub message-answer : (κs : Lfts (message.signature .lifetimes)) (r : World.ResD message.signature κs)
     (s : Clauses.AtExit (K.endedOf _ message-kinds.ps message-kinds.r) κs) → Answer
 message-answer κs r s =
-    answer r (lent (now (s .0)) (now (s .1 .0)) (now (s .1 .1 .0)) (now (s .1 .1 .1 .0)) (now (s .1 .1 .1 .1 .0)))
+    explaining (r .outcome) (r .reason) (lent (now (s .0)) (now (s .1 .0)) (now (s .1 .1 .0)) (now (s .1 .1 .1 .0)) (now (s .1 .1 .1 .1 .0)))
     (now (s .1 .1 .1 .1 .1 .1 .0)) (now (s .1 .1 .1 .1 .1 .1 .1 .0))
 
 pub message-once : (κs : Lfts (message.signature .lifetimes)) (a : World.ArgsD message.signature κs) (r r' : World.ResD message.signature κs)

@@ -20,7 +20,7 @@ use Rattle.hub.proofs.read.Kinds as read-kinds
 use Rattle.hub.proofs.read.Reads as read-reads
 
 module _ (κs : Lfts (message.signature .lifetimes)) (a : World.ArgsD message.signature κs) (r : World.ResD message.signature κs)
-    (s : Clauses.AtExit (K.endedOf _ message-kinds.ps message-kinds.r) κs) (p : message-reads.Post κs a r s) (n : ℕ) (e : r ≡ Done n) where
+    (s : Clauses.AtExit (K.endedOf _ message-kinds.ps message-kinds.r) κs) (p : message-reads.Post κs a r s) (n : ℕ) (e : r .outcome ≡ Done n) where
   abbrev tables : Lent
   tables = lent (now (a .0)) (now (a .1 .0)) (now (a .1 .1 .0)) (now (a .1 .1 .1 .0)) (now (a .1 .1 .1 .1 .0))
 

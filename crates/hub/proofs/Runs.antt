@@ -7,8 +7,8 @@ use denote.Triple.Clauses
 use Rattle.words.specs.Basics.{_≡_, true, List, now}
 use Rattle.rules.specs.Lists.{all}
 use Rattle.rules.specs.Frame.{Lent, lent}
-use Rattle.rules.specs.History.{Call, sends, admits, releases, Said, after, Event, history, octetsOnly, freeTables}
-use Rattle.rules.specs.Seen.{saidBy, saidByHost, Seen, calls, SeenHolds, SeenReads}
+use Rattle.rules.specs.History.{Call, sends, admits, releases, Said, saidBy, saidByHost, after, Event, history, octetsOnly, freeTables}
+use Rattle.rules.specs.Seen.{Seen, calls, SeenHolds, SeenReads}
 use Rattle.rules.proofs.Seen as seen
 use Rattle.hosting.proofs.Once.{admit-answer, release-answer}
 use Rattle.hub.proofs.Once.{message-answer}

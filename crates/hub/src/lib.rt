@@ -7,10 +7,23 @@ pub use hosting::release;
 pub use messages::read;
 use words::Fields;
 use words::Outcome;
+use words::Reason;
+use words::Told;
 use words::Way;
 ghost use Rattle.words.specs.Basics.{_≡_};
+ghost use Rattle.rules.specs.Types.{NoFault};
 ghost use Rattle.rules.specs.Frame.{lent};
-ghost use Rattle.rules.specs.Calls.{answer, message};
+ghost use Rattle.rules.specs.Calls.{explaining, message};
+
+// An outcome that gives no reason.
+fn unexplained(outcome: Outcome) -> Told
+    ensures { λ r. ⌜ (r .outcome ≡ outcome) × (r .reason ≡ NoFault) ⌝ }
+{
+    Told {
+        outcome: outcome,
+        reason: Reason::NoFault,
+    }
+}
 
 // Handles a message: any octets, any contents and lengths of the lent slices.
 pub fn message(
@@ -22,8 +35,8 @@ pub fn message(
     msg: &[u8],
     reply: &mut [u8],
     list: &mut [u8],
-) -> Outcome
-    ensures { λ r. ⌜ answer r (lent (now (devices .exit)) (now (binds .exit)) (now (groups .exit)) (now (members .exit)) (now (sessions .exit)))
+) -> Told
+    ensures { λ r. ⌜ explaining (r .outcome) (r .reason) (lent (now (devices .exit)) (now (binds .exit)) (now (groups .exit)) (now (members .exit)) (now (sessions .exit)))
         (now (reply .exit)) (now (list .exit))
         ≡ message (lent (now (devices .entry)) (now (binds .entry)) (now (groups .entry)) (now (members .entry)) (now (sessions .entry)))
         (now (msg .entry)) (now (reply .entry)) (now (list .entry)) ⌝ }
@@ -32,7 +45,7 @@ pub fn message(
     let way = deciding::way_of(devices, binds, groups, members, sessions, read, reply, list);
     let f = read.fields;
     match way {
-        Way::Refuse(outcome) => outcome,
+        Way::Refuse(outcome) => unexplained(outcome),
         Way::Serve(command) => following::serve(
             devices,
             binds,
@@ -44,6 +57,6 @@ pub fn message(
             &msg[Fields::HEADER..],
             reply,
         ),
-        Way::Forward(to) => following::forward(binds, members, to, f, list),
+        Way::Forward(to) => unexplained(following::forward(binds, members, to, f, list)),
     }
 }

@@ -1,7 +1,8 @@
 -- Every command answered 0x00 changes the tables in order, and changes them as the history's entries say.
 use Rattle.words.specs.Basics.{_≡_, refl, sym, ap, _∙_, Bool, true, false, cond, false≢true, List, ℕ, _+_, _*_, _<_, _≤_, arith, length, take, take-all}
-use Rattle.words.specs.Basics.{_||_}
+use Rattle.words.specs.Basics.{not, _||_}
 use Rattle.words.specs.Basics.{eqb, not-true, eq-eqb, eqb-true, leb-true}
+use Rattle.words.specs.Reasons.{faultless}
 use Rattle.words.specs.Names.{code, ok, notAuthorized, invalidArgument, noReadSession, notEnoughResources}
 use Rattle.rules.specs.Types.{DeviceAddress, GroupAddress, Code, Command, AddBind, RemoveBinds, StartSession, EndSession, GetEntries, CreateGroup}
 use Rattle.rules.specs.Types.{DeleteGroup, AddToGroup, RemoveFromGroup, GetGroupInfo, Kind, Devices, Binds, Groups, Members, Sessions}
@@ -11,12 +12,13 @@ use Rattle.rules.specs.Tables.{Rec, used, someFree, matches, addressed, 
 use Rattle.rules.specs.Layout.{size, key, longestName, memberGroup, toGroup, boundGroup, groupRecord, toThisGroup, inGroup, sessionRecord}
 use Rattle.rules.specs.Frame.{Lent, Tables, tables, also, Effect, nothing, only}
 use Rattle.rules.specs.Exists.{admitted, deviceExists, mayCommand, hasRights, groupExists}
-use Rattle.rules.specs.Sound.{wholeRecords, deviceFits, sessionFits, fits, soundTable, sound}
+use Rattle.rules.specs.Sound.{wholeRecords, deviceFits, bindFits, sessionFits, fits, soundTable, sound}
 use Rattle.rules.specs.Payloads.{bindOf, memberOf, groupNamed}
+use Rattle.rules.specs.Faults.{addFault}
 use Rattle.rules.specs.Sessions.{inSession, alters, closing}
-use Rattle.rules.specs.Commands.{addition, naming, opening, creation, newGroup, row, rightsFit, payloadFits, judge}
+use Rattle.rules.specs.Commands.{roomIn, addition, naming, opening, creation, newGroup, row, rightsFit, payloadFits, judge}
 use Rattle.rules.specs.History.{Entry, Entries, hasPage, silence, groupSaid, lines}
-use Rattle.rules.proofs.Lists.{never, split, join, any-weaken, any-with}
+use Rattle.rules.proofs.Lists.{never, split, join, pass, any-weaken, any-with}
 use Rattle.rules.proofs.Frames.{also-all, also-both}
 use Rattle.rules.proofs.Records.{length-records}
 use Rattle.rules.proofs.Words.{shaped, addressed-word, word-of, to-group, apart}
@@ -24,19 +26,11 @@ use Rattle.rules.proofs.Numbers.{bind-said, group-said, member-said, bi
 use Rattle.rules.proofs.Changes.{Storable, New, spares}
 use Rattle.rules.proofs.Distinct.{lone}
 use Rattle.rules.proofs.Fresh.{new-low, new-high, new-fresh}
+use Rattle.rules.proofs.Faults.{meets, by-fields, fits-all}
 use Rattle.rules.proofs.Kept.{Sane, InOrder, Ok, order-none, order-wipe, sound-at, whole-at, bind-kept, member-kept, session-kept, ok-nothing}
 use Rattle.rules.proofs.Standing.{Says, says-nothing, says-stored, says-withdrawn}
 use Rattle.rules.proofs.Stored.{Stored, bind-stored, member-stored, named-small, group-stored, group-meets, device-high, session-stored, session-key}
-use Rattle.rules.proofs.Stored.{session-device}
-
--- a check that a command answered 0x00 passed
-pub pass : {b : Bool} {c rest : Code} → (c ≡ ok → ⊥) → ask b c rest ≡ ok → (b ≡ true) × (rest ≡ ok)
-unfolding ask
-pass {b} {c} {rest} n h = step b h
-  where
-    step : (b : Bool) → cond b rest c ≡ ok → (b ≡ true) × (rest ≡ ok)
-    step true h = (refl, h)
-    step false h = absurd (n h)
+use Rattle.rules.proofs.Stored.{session-device, source-flag}
 
 -- no other code is 0x00
 not-ok : (n : ℕ) → (n ≡ 0 → ⊥) → code n ≡ ok → ⊥
@@ -53,6 +47,22 @@ unauthorized = not-ok 0x01 (λ z. omega arith)
 
 pub no-session : noReadSession ≡ ok → ⊥
 no-session = not-ok 0x20 (λ z. omega arith)
+
+-- The checks that a command answered 0x00 passed
+
+pub record Passed (T : Tables) (s : DeviceAddress) (k : Command) (p : List ℕ) : Type 0 where
+  pub rights : rightsFit (T Devices) s k ≡ true
+  pub length : length p ≡ row k .length p
+  pub fault : faultless (row k .fault T p) ≡ true
+  pub verdict : row k .verdict T s p ≡ ok
+
+pub passed : (T : Tables) (s : DeviceAddress) (k : Command) (p : List ℕ) → judge T s k p ≡ ok → Passed T s k p
+unfolding judge payloadFits
+passed T s k p j =
+    let a = pass unauthorized j in
+    let b = pass invalid a.1 in
+    let c = pass invalid b.1 in
+    record { rights = a.0; length = eqb-true (length p) (row k .length p) b.0; fault = c.0; verdict = c.1 }
 
 -- What a call does is what the history says of it
 
@@ -126,16 +136,13 @@ pub order-store : (k : Kind) (L : Lent) (r : Rec) (w : List ℕ) → take (key k
 unfolding Storable New lone
 order-store k L r w e f s m a = record { room = (f, s .used); shape = s .shape; meets = m; alone = rw (e, a) }
 
--- the checks of Add Bind and Add to Group: a record that is stored whole and must not be there
-order-added : (k : Kind) (L : Lent) (r : Rec) → key k ≡ size k → Stored (size k) r
-    → ask (fits k (tables L Devices) (tables L Groups) r) invalidArgument (addition r (tables L k)) ≡ ok → InOrder k L (store r)
-unfolding shaped addition
-order-added k L r e s v =
-    let a = pass invalid v in
-    let b = pass invalid a.1 in
-    let c = pass full b.1 in
+-- Add Bind and Add to Group: a record that is stored whole and must not be there
+order-added : (k : Kind) (L : Lent) (r : Rec) → key k ≡ size k → Stored (size k) r → fits k (tables L Devices) (tables L Groups) r ≡ true
+    → not (any (matches 0 r) (used (tables L k))) ≡ true → roomIn (tables L k) ≡ ok → InOrder k L (store r)
+unfolding shaped
+order-added k L r e s m a v =
     let n = eqb-true (length r) (size k) (split (s .shape) .0) in
-    order-store k L r r (rw e (take-all (size k) r (omega arith))) c.0 s a.0 (not-true _ b.0)
+    order-store k L r r (rw e (take-all (size k) r (omega arith))) (pass full v .0) s m (not-true _ a)
 
 -- "any change to the bind table closes all sessions": what is in order and told stays so, since sessions have no page
 
@@ -255,44 +262,47 @@ module _ (L : Lent) (p : List ℕ) (o : octetString p ≡ true) where
       elim (inSession (tables L Sessions) s) as (λ b. Told (cond b nothing (only Sessions (store (sessionRecord s)))) silence)
       [ true ↦ told-nothing | false ↦ told-apart Sessions _ refl told-nothing ]
 
-  granted-by : (s : DeviceAddress) (k : Command) → Sane L → rightsFit (tables L Devices) s k ≡ true → length p ≡ row k .length p
-      → row k .verdict (tables L) s p ≡ ok → Granted L s k p
-  unfolding lines fits silence hasPage rightsFit
-  granted-by s AddBind S a l v =
-      record {
-        ok = ok-binds _ (order-added Binds L (bindOf p) refl (bind-stored p l o) v);
-        told = told-also Binds (says-stored (bind-said p o l)) told-nothing;
-      }
-  granted-by s (RemoveBinds q) S a l v =
-      record { ok = ok-binds _ (order-wipe Binds L _); told = told-also Binds (says-withdrawn (bind-named p o q l)) told-nothing }
-  granted-by s StartSession S a l v =
-      record { ok = ok-start s S a v; told = told-start s }
-  granted-by s EndSession S a l v =
+  -- the bind of a payload has a source of 15 bits, and met the field rules
+  order-bind : {s : DeviceAddress} → Passed (tables L) s AddBind p → InOrder Binds L (store (bindOf p))
+  unfolding addFault fits bindFits
+  order-bind c =
+      let m = meets (c .fault) in
+      order-added Binds L (bindOf p) refl (bind-stored p (c .length) o) (join (source-flag p o) (fits-all (by-fields m))) (m .absent) (c .verdict)
+
+  order-member : {s : DeviceAddress} → Passed (tables L) s AddToGroup p → InOrder Members L (store (memberOf p))
+  unfolding addition fits
+  order-member c =
+      let a = pass invalid (c .verdict) in
+      let b = pass invalid a.1 in
+      order-added Members L (memberOf p) refl (member-stored p (c .length) o) a.0 b.0 b.1
+
+  granted-by : (s : DeviceAddress) (k : Command) → Sane L → Passed (tables L) s k p → Granted L s k p
+  unfolding lines silence hasPage rightsFit
+  granted-by s AddBind S c =
+      record { ok = ok-binds _ (order-bind c); told = told-also Binds (says-stored (bind-said p o (c .length))) told-nothing }
+  granted-by s (RemoveBinds q) S c =
+      record { ok = ok-binds _ (order-wipe Binds L _); told = told-also Binds (says-withdrawn (bind-named p o q (c .length))) told-nothing }
+  granted-by s StartSession S c =
+      record { ok = ok-start s S (c .rights) (c .verdict); told = told-start s }
+  granted-by s EndSession S c =
       record { ok = ok-sessions _ (order-wipe Sessions L _); told = told-apart Sessions _ refl told-nothing }
-  granted-by s (GetEntries f) S a l v =
+  granted-by s (GetEntries f) S c =
       record { ok = ok-nothing L; told = told-nothing }
-  granted-by s CreateGroup S a l v =
-      record { ok = ok-create S l v; told = told-apart Groups _ refl told-nothing }
-  granted-by s DeleteGroup S a l v =
+  granted-by s CreateGroup S c =
+      record { ok = ok-create S (c .length) (c .verdict); told = told-apart Groups _ refl told-nothing }
+  granted-by s DeleteGroup S c =
       record { ok = ok-delete; told = told-delete }
-  granted-by s AddToGroup S a l v =
-      record {
-        ok = ok-members _ (order-added Members L (memberOf p) refl (member-stored p l o) v);
-        told = told-also Members (says-stored (member-said p o l)) told-nothing;
-      }
-  granted-by s RemoveFromGroup S a l v =
-      record { ok = ok-members _ (order-wipe Members L _); told = told-also Members (says-withdrawn (member-named p o l)) told-nothing }
-  granted-by s GetGroupInfo S a l v =
+  granted-by s AddToGroup S c =
+      record { ok = ok-members _ (order-member c); told = told-also Members (says-stored (member-said p o (c .length))) told-nothing }
+  granted-by s RemoveFromGroup S c =
+      record { ok = ok-members _ (order-wipe Members L _); told = told-also Members (says-withdrawn (member-named p o (c .length))) told-nothing }
+  granted-by s GetGroupInfo S c =
       record { ok = ok-nothing L; told = told-nothing }
 
   pub granted-command : (s : DeviceAddress) (k : Command) → Sane L → judge (tables L) s k p ≡ ok → Granted L s k p
-  unfolding judge payloadFits
-  granted-command s k S j =
-      let a = pass unauthorized j in
-      let b = pass invalid a.1 in
-      granted-by s k S a.0 (eqb-true (length p) (row k .length p) b.0) b.1
+  granted-command s k S j = granted-by s k S (passed (tables L) s k p j)
 
 -- Get Group Info is answered 0x00 only of a group that exists
 pub info-granted : (T : Tables) (s : DeviceAddress) (p : List ℕ) → judge T s GetGroupInfo p ≡ ok → groupExists (T Groups) (groupNamed p) ≡ true
-unfolding judge naming
-info-granted T s p j = pass invalid (pass invalid (pass unauthorized j .1) .1) .0
+unfolding naming
+info-granted T s p j = pass invalid (passed T s GetGroupInfo p j .verdict) .0

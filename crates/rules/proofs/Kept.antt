@@ -1,20 +1,20 @@
 -- Soundness (document 01, Tables) and "every element of a table is an octet" are kept by every change that is in order.
-use Rattle.words.specs.Basics.{_≡_, refl, ap, _∙_, Bool, true, false, cond, not, List, ℕ, _%_, eqb, length, eqb-true}
+use Rattle.words.specs.Basics.{_≡_, refl, ap, _∙_, Bool, true, false, cond, not, _||_, List, ℕ, _%_, eqb, length, eqb-true}
 use Rattle.rules.specs.Types.{DeviceAddress, GroupAddress, Kind, Devices, Binds, Groups, Members, Sessions}
 use Rattle.rules.specs.Lists.{any, all, _&_}
 use Rattle.rules.specs.Octets.{octetString}
 use Rattle.rules.specs.Tables.{Rec, records, used, addressed, Change, none, wipe, change}
-use Rattle.rules.specs.Layout.{size, most, key, bindSource, bindSourceUnit, bindFrom, fromAnyDevice, fromAnyUnit}
-use Rattle.rules.specs.Layout.{toGroup, boundGroup, boundDevice, bindUnit, bindTo}
+use Rattle.rules.specs.Layout.{size, most, key, bindSource, bindSourceUnit, fromAnyDevice, fromAnyUnit, toGroup, boundGroup, boundDevice, bindUnit}
 use Rattle.rules.specs.Layout.{memberGroup, memberDevice, memberUnit, sessionDevice}
 use Rattle.rules.specs.Frame.{Lent, lentOf, tables, Effect, nothing, changed}
 use Rattle.rules.specs.Exists.{admitted, hasUnit, unitExists, deviceExists, groupExists}
-use Rattle.rules.specs.Sound.{wholeRecords, sourceFits, destinationFits, bindFits, memberFits, sessionFits, fits, distinct, soundTable, sound}
+use Rattle.rules.specs.Sound.{wholeRecords, bindFits, memberFits, sessionFits, fits, distinct, soundTable, sound}
 use Rattle.rules.proofs.Lists.{split, join}
 use Rattle.rules.proofs.Frames.{shapes, every-at, every-of, lent-changed}
 use Rattle.rules.proofs.Words.{shaped}
 use Rattle.rules.proofs.Changes.{Storable, New, spares, any-change, every-change, shaped-records, records-written, octets-written, length-written}
 use Rattle.rules.proofs.Distinct.{lone, distinct-change}
+use Rattle.rules.proofs.Faults.{meets, fits-all}
 
 -- one table's soundness of all, and back
 
@@ -146,35 +146,39 @@ pub group-kept : (c : Change) (gs : List Rec) (g : GroupAddress) → Storable c 
 unfolding groupExists
 group-kept c gs g f s h = any-change c gs (addressed (g .0)) f s h
 
-module _ (cd cg : Change) (ds gs : List Rec) (fd : Storable cd ds) (fg : Storable cg gs) where
-  source-kept : (b : Rec) → ((r : Rec) → addressed (bindSource b .0) r ≡ true → spares cd r ≡ true)
-      → sourceFits ds b ≡ true → sourceFits (change cd ds) b ≡ true
-  unfolding sourceFits
-  source-kept b src h = step (fromAnyDevice b) (fromAnyUnit b) h
-    where
-      step : (v w : Bool) → cond v true (cond w (deviceExists ds (bindSource b)) (unitExists ds (bindSource b) (bindSourceUnit b))) ≡ true
-          → cond v true (cond w (deviceExists (change cd ds) (bindSource b)) (unitExists (change cd ds) (bindSource b) (bindSourceUnit b))) ≡ true
-      step true w h = refl
-      step false true h = device-kept cd ds (bindSource b) fd src h
-      step false false h = unit-kept cd ds (bindSource b) (bindSourceUnit b) fd src h
+-- what was asked behind "or" and holds still
 
+unless : (w : Bool) {v v' : Bool} → (w ≡ false → v ≡ true → v' ≡ true) → (w || v) ≡ true → (w || v') ≡ true
+unless true f h = refl
+unless false f h = f refl h
+
+either : (w : Bool) {v v' : Bool} → (v ≡ true → v' ≡ true) → (w || v) ≡ true → (w || v') ≡ true
+either w f = unless w (λ e. f)
+
+when : (w : Bool) {v v' : Bool} → (w ≡ true → v ≡ true → v' ≡ true) → (not w || v) ≡ true → (not w || v') ≡ true
+when true f h = f refl h
+when false f h = refl
+
+module _ (cd cg : Change) (ds gs : List Rec) (fd : Storable cd ds) (fg : Storable cg gs) where
   pub bind-kept : (b : Rec) → ((r : Rec) → addressed (bindSource b .0) r ≡ true → spares cd r ≡ true)
       → (toGroup b ≡ false → (r : Rec) → addressed (boundDevice b .0) r ≡ true → spares cd r ≡ true)
       → (toGroup b ≡ true → (r : Rec) → addressed (boundGroup b .0) r ≡ true → spares cg r ≡ true)
       → bindFits ds gs b ≡ true → bindFits (change cd ds) (change cg gs) b ≡ true
-  unfolding bindFits destinationFits
+  unfolding bindFits
   bind-kept b src dst grp h =
       let a = split h in
-      let c = split a.0 in
-      let d = split c.0 in
-      join (join (join d.0 (source-kept b src d.1)) c.1) (end (toGroup b) refl a.1)
-    where
-      end : (w : Bool) → toGroup b ≡ w
-          → cond w (groupExists gs (boundGroup b)) (unitExists ds (boundDevice b) (bindUnit b) & not (eqb (bindTo b) (bindFrom b))) ≡ true
-          → cond w (groupExists (change cg gs) (boundGroup b))
-          (unitExists (change cd ds) (boundDevice b) (bindUnit b) & not (eqb (bindTo b) (bindFrom b))) ≡ true
-      end true e h = group-kept cg gs (boundGroup b) fg (grp e) h
-      end false e h = let a = split h in join (unit-kept cd ds (boundDevice b) (bindUnit b) fd (dst e) a.0) a.1
+      let m = meets a.1 in
+      join a.0 (fits-all (record {
+        length = refl;
+        source-device = either (fromAnyDevice b) (device-kept cd ds (bindSource b) fd src) (m .source-device);
+        source-unit = either (fromAnyDevice b || fromAnyUnit b) (unit-kept cd ds (bindSource b) (bindSourceUnit b) fd src) (m .source-unit);
+        a-unit = m .a-unit;
+        device = unless (toGroup b) (λ e. device-kept cd ds (boundDevice b) fd (dst e)) (m .device);
+        unit = unless (toGroup b) (λ e. unit-kept cd ds (boundDevice b) (bindUnit b) fd (dst e)) (m .unit);
+        group = when (toGroup b) (λ e. group-kept cg gs (boundGroup b) fg (grp e)) (m .group);
+        another = m .another;
+        absent = refl;
+      }))
 
   pub member-kept : (m : Rec) → ((r : Rec) → addressed (memberDevice m .0) r ≡ true → spares cd r ≡ true)
       → ((r : Rec) → addressed (memberGroup m .0) r ≡ true → spares cg r ≡ true)

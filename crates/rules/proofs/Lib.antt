@@ -9,6 +9,7 @@ pub mod Distinct
 pub mod Order
 pub mod Fresh
 pub mod Frames
+pub mod Faults
 pub mod Kept
 pub mod Standing
 pub mod Stored
@@ -18,6 +19,7 @@ pub mod Shuts
 pub mod Carried
 pub mod Ways
 pub mod Steps
+pub mod Explains
 pub mod Run
 pub mod Closed
 pub mod Links
@@ -43,6 +45,7 @@ pub mod RowsOfUnits
 pub mod RowsOfScenes
 pub mod RowsOfSessions
 pub mod RowsOfEntries
+pub mod RowsOfReasons
 pub mod Rows
 pub mod Worked
 pub mod NotVacuous

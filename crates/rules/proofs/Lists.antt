@@ -58,6 +58,15 @@ pub ask-fail : {A : Type 0} {b : Bool} (o r : A) → b ≡ false → ask b o r �
 unfolding ask
 ask-fail o r h = rw h
 
+-- a check was passed, where its own answer is not the one given
+pub pass : {A : Type 0} {b : Bool} {o r x : A} → (o ≡ x → ⊥) → ask b o r ≡ x → (b ≡ true) × (r ≡ x)
+unfolding ask
+pass {A} {b} {o} {r} {x} n h = step b h
+  where
+    step : (b : Bool) → cond b r o ≡ x → (b ≡ true) × (r ≡ x)
+    step true h = (refl, h)
+    step false h = absurd (n h)
+
 module _ {A : Type 0} where
   pub count-keep : (p q : A → Bool) (l : List A) → count p (keep q l) ≡ count (λ x. q x && p x) l
   unfolding count keep

@@ -7,7 +7,7 @@ use Rattle.rules.specs.Calls.{Answer}
 use Rattle.rules.specs.History.{octetsOnly}
 use Rattle.words.specs.Outcomes.{numberOf, valueOf}
 use Rattle.words.specs.declared.Outcome.the-variants.{NotServed}
-use Rattle.words.proofs.Apart.{readBack}
+use Rattle.words.proofs.Apart.{readBack, reasonBack}
 use Rattle.rules.specs.Types.{Outcome, Done, Forwarded, Nobody, WrongLength, WrongDataLength, WrongType, NoSource, NoDestination, ResponseToMany}
 use Rattle.rules.specs.Types.{Unsound, NoRoom, NoCopy, OutOfRange, AlreadyAdmitted, NoFreeRecord, NotAdmitted}
 use Rattle.rules.proofs.Whole.{whole}
@@ -22,8 +22,9 @@ use Rattle.rules.proofs.RowsOfUnits as units
 use Rattle.rules.proofs.RowsOfScenes as scenes
 use Rattle.rules.proofs.RowsOfSessions as sessions
 use Rattle.rules.proofs.RowsOfEntries as entries
+use Rattle.rules.proofs.RowsOfReasons as reasons
 use Rattle.rules.proofs.Samples.{Row, row, AsTold, run, lending, filled, device-table, D3, D4, D5, named, threeMembers, holding, three-one, four-one}
-use Rattle.rules.proofs.Samples.{to-group-one, curtains, bindManagement, letter, request, Sent, told, answerTo, reply}
+use Rattle.rules.proofs.Samples.{to-group-one, curtains, bindManagement, letter, request, Sent, told, because, answerTo, reply}
 
 -- devices 3 (rights 1, units 0 to 2), 4 (0, 0 to 2), 5 (0, 0 and 1); group 1 named "S"; members 5:01, 4:02, 3:01 in that order; these binds
 abbrev start : List ℕ → Lent
@@ -47,6 +48,10 @@ coded bs to code = told 0 16 (start bs) (lending 500 (run 3 0x00_00_00 ++ to ++ 
 abbrev adds : List ℕ → List ℕ → List ℕ → ℕ → Row Sent Answer
 adds before p after code = starting before (adding three-one p) (coded after three-one code)
 
+-- .. answered 0x02 for this reason
+abbrev faulty : List ℕ → List ℕ → ℕ → Row Sent Answer
+faulty before p reason = starting before (adding three-one p) (because reason (coded before three-one 0x02))
+
 abbrev refuses : List ℕ → ℕ → Row Sent Answer
 refuses m outcome = starting [] m (told outcome 0 (start []) reply list)
 
@@ -66,14 +71,14 @@ paper =
     ∷ adds [] bind2 bind2 0x00
     -- P3 stores as P1; P4 is P1 again
     ∷ adds [] (run 8 0x80_03_01_82_00_00_04_02) bind1 0x00
-    ∷ adds bind1 bind1 bind1 0x02
+    ∷ faulty bind1 bind1 9
     -- P5 from device 4, P6 seven octets
     ∷ starting [] (adding four-one bind1) (coded [] four-one 0x01)
-    ∷ adds [] (run 7 0x00_03_01_82_00_00_04) [] 0x02
+    ∷ faulty [] (run 7 0x00_03_01_82_00_00_04) 1
     -- P7 destination 5:02, P8 destination 5:01, P9 destination 3:01
-    ∷ adds [] (run 8 0x00_03_01_82_00_00_05_02) [] 0x02
+    ∷ faulty [] (run 8 0x00_03_01_82_00_00_05_02) 6
     ∷ adds [] bind8 bind8 0x00
-    ∷ adds [] (run 8 0x00_03_01_82_00_00_03_01) [] 0x02
+    ∷ faulty [] (run 8 0x00_03_01_82_00_00_03_01) 8
     -- P10 fourteen octets, P11 type 0x11, P12 type 0x03 to G'0001
     ∷ refuses (run 14 0x00_03_01_00_00_00_00_00_07_01_80_02_01_00) 10
     ∷ refuses (letter three-one (run 3 0x00_00_00) 0x11 bindManagement 0x01 bind1) 12
@@ -171,9 +176,14 @@ pub record AllRows : Type 0 where
   pub without-session : AsTold answerTo entries.without-session
   pub in-session : AsTold answerTo entries.in-session
   pub no-more-than-fit : AsTold answerTo entries.no-more-than-fit
+  pub reason-numbers : AsTold reasons.numbered reasons.reasons
+  pub each-reason : AsTold answerTo reasons.each-reason
+  pub first-given : AsTold answerTo reasons.first-given
+  pub first-of-two : AsTold reasons.faultOf reasons.first-of-two
+  pub not-explained : AsTold answerTo reasons.not-explained
 
 pub as-told : AllRows
-unfolding whole readBack
+unfolding whole readBack reasonBack
 as-told = record {
   outcomes = refl;
   paper = refl;
@@ -236,4 +246,9 @@ as-told = record {
   without-session = refl;
   in-session = refl;
   no-more-than-fit = refl;
+  reason-numbers = refl;
+  each-reason = refl;
+  first-given = refl;
+  first-of-two = refl;
+  not-explained = refl;
 }

@@ -2,15 +2,16 @@
 use Rattle.words.specs.Basics.{List, [], _∷_, _++_, map, ℕ}
 use Rattle.rules.specs.Frame.{Lent}
 use Rattle.rules.specs.Calls.{Answer}
-use Rattle.rules.proofs.Samples.{Row, run, filled, house, plain, a, b, c, d, e, five, full-of-binds, bindManagement, Sent, grants, code}
+use Rattle.rules.proofs.Samples.{Row, run, filled, house, plain, a, b, c, d, e, five, full-of-binds, bindManagement, Sent, grants, code, faulty}
 
 -- Add Bind in the house without binds: stored as it came
 
 abbrev pub stores : ℕ → Row Sent Answer
 stores p = grants bindManagement 0x01 (run 8 p) plain (house (run 8 p))
 
-abbrev pub wrong : ℕ → Row Sent Answer
-wrong p = code 0x02 bindManagement 0x01 plain (run 8 p)
+-- .. or refused, for this reason
+abbrev pub wrong : ℕ → ℕ → Row Sent Answer
+wrong reason p = faulty reason plain (run 8 p)
 
 -- .. beside the bind from 3:01 to 4:02
 abbrev beside-a : ℕ → Row Sent Answer
@@ -24,22 +25,27 @@ add-bind =
     (0x00_03_01_02_00_00_04_02 ∷ 0x00_03_01_7F_FE_00_04_02 ∷ 0x00_03_01_00_00_00_04_02 ∷ 0x00_03_01_82_00_80_01_FE ∷ 0x00_00_00_82_00_00_04_02
     ∷ 0x00_03_01_82_00_00_00_00 ∷ 0x00_03_01_82_00_00_03_02 ∷ 0x00_01_01_82_00_80_01_01 ∷ [])
     -- no such source, no such unit of it or of the concentrator; destination unit 0xFF
-    ++ map wrong
-    (0x00_06_00_82_00_00_04_02 ∷ 0x00_03_03_82_00_00_04_02 ∷ 0x00_00_01_82_00_00_04_02 ∷ 0x00_03_01_82_00_80_01_FF ∷ [])
-    -- no such destination, no such unit of it or of the concentrator; no such group, G'7FFF; the device that has a group's number only
-    ++ map wrong
-    (0x00_03_01_82_00_00_06_00 ∷ 0x00_03_01_82_00_00_04_03 ∷ 0x00_03_01_82_00_00_00_01 ∷ 0x00_03_01_82_00_80_03_00 ∷ 0x00_03_01_82_00_FF_FF_00
-    ∷ 0x00_03_01_82_00_00_02_00 ∷ [])
+    ++ wrong 2 0x00_06_00_82_00_00_04_02
+    ∷ wrong 3 0x00_03_03_82_00_00_04_02
+    ∷ wrong 3 0x00_00_01_82_00_00_04_02
+    ∷ wrong 4 0x00_03_01_82_00_80_01_FF
+    -- no such destination, also the device that has a group's number only; no such unit of it or of the concentrator; no such group, G'7FFF
+    ∷ wrong 5 0x00_03_01_82_00_00_06_00
+    ∷ wrong 5 0x00_03_01_82_00_00_02_00
+    ∷ wrong 6 0x00_03_01_82_00_00_04_03
+    ∷ wrong 6 0x00_03_01_82_00_00_00_01
+    ∷ wrong 7 0x00_03_01_82_00_80_03_00
+    ∷ wrong 7 0x00_03_01_82_00_FF_FF_00
     -- another UID, role, destination unit, source unit: not the same bind
-    ++ map beside-a (0x00_03_01_83_00_00_04_02 ∷ 0x00_03_01_02_00_00_04_02 ∷ 0x00_03_01_82_00_00_04_01 ∷ 0x00_03_02_82_00_00_04_02 ∷ [])
+    ∷ map beside-a (0x00_03_01_83_00_00_04_02 ∷ 0x00_03_01_02_00_00_04_02 ∷ 0x00_03_01_82_00_00_04_01 ∷ 0x00_03_02_82_00_00_04_02 ∷ [])
     -- another unit of a group bind; an addition takes the first free record
     ++ grants bindManagement 0x01 (run 8 0x00_04_00_82_00_80_01_01) (house (d ++ filled 8 [] ++ a)) (house (d ++ run 8 0x00_04_00_82_00_80_01_01 ++ a))
     -- there already, also by its octets with the top bit; no free record: 0xFE, but 0x02 first
-    ∷ code 0x02 bindManagement 0x01 (house (d ++ a)) a
-    ∷ code 0x02 bindManagement 0x01 (house (d ++ a)) (run 8 0x80_03_01_82_00_00_04_02)
+    ∷ faulty 9 (house (d ++ a)) a
+    ∷ faulty 9 (house (d ++ a)) (run 8 0x80_03_01_82_00_00_04_02)
     ∷ code 0xFE bindManagement 0x01 full-of-binds (run 8 0x00_03_01_82_00_00_05_01)
-    ∷ code 0x02 bindManagement 0x01 full-of-binds a
-    ∷ code 0x02 bindManagement 0x01 full-of-binds (run 8 0x00_03_01_82_00_00_05_02)
+    ∷ faulty 9 full-of-binds a
+    ∷ faulty 6 full-of-binds (run 8 0x00_03_01_82_00_00_05_02)
     ∷ []
 
 abbrev pub gone : List ℕ

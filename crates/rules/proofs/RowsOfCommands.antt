@@ -4,21 +4,25 @@ use Rattle.rules.specs.Frame.{Lent}
 use Rattle.rules.specs.Calls.{Answer}
 use Rattle.rules.proofs.Samples.{Row, row, run, with-sessions, in-session-of, house, plain, a, five, full-of-binds, full-of-members, three-one, four-one}
 use Rattle.rules.proofs.Samples.{concentrator}
-use Rattle.rules.proofs.Samples.{bindManagement, groupManagement, letter, Sent, sent, unchanged, replied, code}
+use Rattle.rules.proofs.Samples.{bindManagement, groupManagement, letter, Sent, sent, because, unchanged, replied, code, faulty}
 
--- interface, member and a payload of the right length
+-- interface, member and a payload of the right length; the reason that is given where the length is wrong
 pub record Given : Type 0 where
   pub interface : List ℕ
   pub member : ℕ
   pub payload : List ℕ
+  pub reason : ℕ
 
 abbrev given : List ℕ → ℕ → List ℕ → Given
-given i m p = record { interface = i; member = m; payload = p }
+given i m p = record { interface = i; member = m; payload = p; reason = 0 }
+
+abbrev add-bind : List ℕ → Given
+add-bind p = record { interface = bindManagement; member = 0x01; payload = p; reason = 1 }
 
 -- those that ask rights
 abbrev asking : List Given
 asking =
-    given bindManagement 0x01 (run 8 0x00_03_02_82_00_80_01_00)
+    add-bind (run 8 0x00_03_02_82_00_80_01_00)
     ∷ given bindManagement 0x02 a
     ∷ given bindManagement 0x03 (run 2 0x00_03)
     ∷ given bindManagement 0x04 (run 3 0x00_03_01)
@@ -52,7 +56,7 @@ payload-lengths =
     flatMap (λ L. flatMap (λ g. wrong L g (g .payload ++ 0x00 ∷ []) ∷ shorter L g (g .payload)) eighteen) (five ∷ in-session-of (run 2 0x00_03) five ∷ [])
   where
     wrong : Lent → Given → List ℕ → Row Sent Answer
-    wrong L g p = code 0x02 (g .interface) (g .member) L p
+    wrong L g p = let x : Row Sent Answer = code 0x02 (g .interface) (g .member) L p in row (x .asked) (because (g .reason) (x .due))
 
     shorter : Lent → Given → List ℕ → List (Row Sent Answer)
     shorter L g [] = []
@@ -61,7 +65,7 @@ payload-lengths =
 -- .. before 0xFE: in full tables
 abbrev pub length-first : List (Row Sent Answer)
 length-first =
-    code 0x02 bindManagement 0x01 full-of-binds (run 9 0x00_03_01_82_00_00_05_01_00)
+    faulty 1 full-of-binds (run 9 0x00_03_01_82_00_00_05_01_00)
     ∷ code 0x02 groupManagement 0x03 full-of-members (run 6 0x00_01_00_05_00_00)
     ∷ code 0x02 bindManagement 0x07 (with-sessions [] five) (0x00 ∷ [])
     ∷ []
@@ -77,7 +81,7 @@ rights =
     ++ map (λ g. unauthorized g (0x00 ∷ g .payload)) asking
     ++ map (λ g. unauthorized g []) asking
     -- .. and with one that is wrong by the command's own checks
-    ++ map (λ p. unauthorized (given bindManagement 0x01 []) p) (a ∷ run 8 0x00_03_01_82_00_00_05_02 ∷ [])
+    ++ map (λ p. unauthorized (add-bind []) p) (a ∷ run 8 0x00_03_01_82_00_00_05_02 ∷ [])
     ++ unauthorized (given bindManagement 0x02 []) (run 8 0x00_03_01_82_00_00_04_01)
     ∷ unauthorized (given groupManagement 0x01 []) (0x0E ∷ replicate 14 0x41)
     ∷ unauthorized (given groupManagement 0x02 []) (run 2 0x00_03)

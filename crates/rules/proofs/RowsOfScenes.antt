@@ -8,7 +8,7 @@ use Rattle.rules.specs.Message.{fields}
 use Rattle.rules.specs.History.{Call, sends, admits, releases, history, linked}
 use Rattle.rules.proofs.Samples.{Row, row, run, filled, zero-to-two, device-table, D1, D3, D4, D5, devices, groups, members, holding, house, far-with}
 use Rattle.rules.proofs.Samples.{a, three-one, concentrator, curtains, bindManagement, groupManagement, letter, request, reply, list, Sent, sent}
-use Rattle.rules.proofs.Samples.{unchanged, goes, grants, code}
+use Rattle.rules.proofs.Samples.{unchanged, goes, grants, code, faulty}
 use Rattle.rules.proofs.RowsOfDelivery.{bound}
 use Rattle.rules.proofs.RowsOfBinds.{stores, wrong, gone}
 use Rattle.rules.proofs.RowsOfCalls.{Releasing, releasing, hosted, not-released}
@@ -124,15 +124,17 @@ add-any =
     ∷ grants bindManagement 0x01 (run 8 0xFF_FF_FF_FF_FF_00_04_02) (house []) (with-bind for-all)
     -- a device or a unit written out must be there: no such device with any unit, D'7FFE; no such unit of a device that is there, 254 and 3; unit 1 of the
     -- concentrator; a unit bound to itself, also at any interface
-    ∷ map wrong
-    (0x00_06_FF_82_00_00_04_02 ∷ 0x7F_FE_FF_82_00_00_04_02 ∷ 0x7F_FE_01_82_00_00_04_02 ∷ 0x00_03_FE_82_00_00_04_02 ∷ 0x00_03_03_FF_FF_00_04_02
-    ∷ 0x00_00_01_FF_FF_00_04_02 ∷ 0x00_03_01_FF_FF_00_03_01
-    -- nothing of the destination changes: D'7FFF, the bind address, G'7FFF, unit 0xFF; no such unit, no such group
-    ∷ 0x7F_FF_FF_FF_FF_7F_FF_00 ∷ 0x7F_FF_FF_FF_FF_7F_FF_FF ∷ 0x7F_FF_FF_FF_FF_FF_FF_00 ∷ 0x7F_FF_FF_FF_FF_00_04_FF ∷ 0x7F_FF_FF_FF_FF_00_04_03
-    ∷ 0x7F_FF_FF_FF_FF_80_03_00 ∷ [])
+    ∷ map (wrong 2) (0x00_06_FF_82_00_00_04_02 ∷ 0x7F_FE_FF_82_00_00_04_02 ∷ 0x7F_FE_01_82_00_00_04_02 ∷ [])
+    ++ map (wrong 3) (0x00_03_FE_82_00_00_04_02 ∷ 0x00_03_03_FF_FF_00_04_02 ∷ 0x00_00_01_FF_FF_00_04_02 ∷ [])
+    ++ wrong 8 0x00_03_01_FF_FF_00_03_01
+    -- nothing of the destination changes: unit 0xFF, also with D'7FFF, the bind address; D'7FFF, no such unit; G'7FFF, no such group
+    ∷ map (wrong 4) (0x7F_FF_FF_FF_FF_00_04_FF ∷ 0x7F_FF_FF_FF_FF_7F_FF_FF ∷ [])
+    ++ wrong 5 0x7F_FF_FF_FF_FF_7F_FF_00
+    ∷ wrong 6 0x7F_FF_FF_FF_FF_00_04_03
+    ∷ map (wrong 7) (0x7F_FF_FF_FF_FF_FF_FF_00 ∷ 0x7F_FF_FF_FF_FF_80_03_00 ∷ [])
     -- there already, also with the top bit; beside a bind that is written out it is another one, and so is that one beside it
-    ++ code 0x02 bindManagement 0x01 (with-bind for-all) (run 8 for-all)
-    ∷ code 0x02 bindManagement 0x01 (with-bind for-all) (run 8 0xFF_FF_FF_FF_FF_00_04_02)
+    ++ faulty 9 (with-bind for-all) (run 8 for-all)
+    ∷ faulty 9 (with-bind for-all) (run 8 0xFF_FF_FF_FF_FF_00_04_02)
     ∷ grants bindManagement 0x01 (run 8 for-all) (house a) (house (a ++ run 8 for-all))
     ∷ grants bindManagement 0x01 a (with-bind for-all) (house (run 8 for-all ++ a))
     -- no free record

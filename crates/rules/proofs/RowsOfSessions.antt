@@ -9,7 +9,7 @@ use Rattle.rules.proofs.Samples.{Row, row, run, filled, zero-to-two, ze
 use Rattle.rules.proofs.Samples.{with-sessions}
 use Rattle.rules.proofs.Samples.{in-session-of, session-table, holding, house, far, plain, a, b, c, d, e, five, three-one, four-one, concentrator}
 use Rattle.rules.proofs.Samples.{curtains}
-use Rattle.rules.proofs.Samples.{bindManagement, groupManagement, letter, request, Sent, sent, unchanged, goes, replied, command, code}
+use Rattle.rules.proofs.Samples.{bindManagement, groupManagement, letter, request, Sent, sent, unchanged, goes, replied, command, code, faulty}
 
 -- sessions of devices 1, 3, 4, 5 and of the concentrator; a free record
 
@@ -137,7 +137,7 @@ closings =
     ∷ leaves bindManagement 0x0A (run 2 0x00_05) five five (run 2 0x00_00)
     ∷ leaves bindManagement 0x07 [] five five (run 3 0x00_00_05)
     -- nor does a command that is refused, nor a message that is handed on
-    ∷ refused 0x02 bindManagement 0x01 a
+    ∷ faulty 9 (both five) a
     ∷ refused 0x02 bindManagement 0x02 (run 8 0x00_03_01_82_00_00_04_01)
     ∷ refused 0x02 bindManagement 0x03 (run 2 0x00_05)
     ∷ refused 0x02 bindManagement 0x05 (run 2 0x00_03)

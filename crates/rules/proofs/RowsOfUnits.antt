@@ -8,7 +8,7 @@ use Rattle.rules.specs.Carry.{CarryAnswer, carryAnswer, carryOver}
 use Rattle.rules.specs.History.{Call, admits, releases, history, existing}
 use Rattle.rules.proofs.Samples.{Row, row, run, lending, filled, units, only-zero, zero-to-one, zero-to-254, valance, valance-without-zero, with-255}
 use Rattle.rules.proofs.Samples.{known, device-table, D3, named, holding}
-use Rattle.rules.proofs.Samples.{three-one, curtains, bindManagement, groupManagement, letter, request, Sent, sent, unchanged, goes, grants, code}
+use Rattle.rules.proofs.Samples.{three-one, curtains, bindManagement, groupManagement, letter, request, Sent, sent, unchanged, goes, grants, code, faulty}
 
 -- A house with gaps: device 3, with rights, has units 0 to 2; device 6, the valance, has 0, 1, 2 and 9; device 7 has 0, 7, 8, 16, 100, 248 and 254
 
@@ -48,8 +48,8 @@ abbrev pub gaps-in-commands : List (Row Sent Answer)
 gaps-in-commands =
     grants bindManagement 0x01 to-nine gaps (with-gaps to-nine [])
     ∷ grants bindManagement 0x01 from-nine gaps (with-gaps from-nine [])
-    ∷ map (λ b. code 0x02 bindManagement 0x01 gaps (run 8 b))
-    (0x00_03_01_82_00_00_06_08 ∷ 0x00_03_01_82_00_00_06_07 ∷ 0x00_06_08_82_00_00_03_01 ∷ 0x00_06_0A_82_00_00_03_01 ∷ [])
+    ∷ map (λ b. faulty 6 gaps (run 8 b)) (0x00_03_01_82_00_00_06_08 ∷ 0x00_03_01_82_00_00_06_07 ∷ [])
+    ++ map (λ b. faulty 3 gaps (run 8 b)) (0x00_06_08_82_00_00_03_01 ∷ 0x00_06_0A_82_00_00_03_01 ∷ [])
     ++ grants groupManagement 0x03 member-nine gaps (with-gaps [] member-nine)
     ∷ code 0x02 groupManagement 0x03 gaps (run 5 0x00_01_00_06_08)
     ∷ row (sent (with-gaps to-nine []) (request three-one curtains)) (goes (with-gaps to-nine []) 1 0x00_06_09)

@@ -1,9 +1,9 @@
 -- What rows are made of: the tables of a house, messages, and the answers that are due. All that is lent to be written is filled with 0xAA, so that an
 -- octet written past those due shows. No definition of an answer is used to say what is due.
 use Rattle.words.specs.Basics.{_≡_, List, [], _∷_, _++_, map, ℕ, zero, suc, _+_, _-_, _*_, _/_, _%_, length, replicate}
-use Rattle.words.proofs.Apart.{readBack}
+use Rattle.words.proofs.Apart.{readBack, reasonBack}
 use Rattle.rules.specs.Frame.{Lent, nothingLent, beside}
-use Rattle.rules.specs.Calls.{message, Answer, answer}
+use Rattle.rules.specs.Calls.{message, Answer, answer, explaining}
 
 -- Rows
 
@@ -219,6 +219,10 @@ answerTo s = message (s .tables) (s .message) (s .reply) (s .list)
 abbrev pub told : ℕ → ℕ → Lent → List ℕ → List ℕ → Answer
 told number count L r l = answer (readBack number count) L r l
 
+-- .. with a reason, by its number
+abbrev pub because : ℕ → Answer → Answer
+because reason x = explaining (x .outcome) (reasonBack reason) (x .tables) (x .reply) (x .list)
+
 -- the reply and the list that are lent
 
 abbrev pub reply : List ℕ
@@ -258,3 +262,8 @@ grants interface member p before after = command interface member p before after
 -- answered with a code, and nothing changed
 abbrev pub code : ℕ → List ℕ → ℕ → Lent → List ℕ → Row Sent Answer
 code c interface member L p = command interface member p L L (c ∷ [])
+
+-- Add Bind, answered 0x02 for this reason
+abbrev pub faulty : ℕ → Lent → List ℕ → Row Sent Answer
+faulty reason L p =
+    row (sent L (letter three-one concentrator 0x01 bindManagement 0x01 p)) (because reason (replied L three-one bindManagement 0x01 (0x02 ∷ [])))

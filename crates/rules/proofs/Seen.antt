@@ -7,11 +7,11 @@ use Rattle.rules.specs.Types.{DeviceAddress, Binds}
 use Rattle.rules.specs.Lists.{all}
 use Rattle.rules.specs.Frame.{Lent}
 use Rattle.rules.specs.Host.{HostAnswer, admit, release}
-use Rattle.rules.specs.Calls.{Answer, answer, message}
-use Rattle.rules.specs.History.{Call, sends, admits, releases, Said, said, left, after, Event, history, octetsOnly, granted, standing, memberCount}
+use Rattle.rules.specs.Calls.{Answer, explaining, message}
+use Rattle.rules.specs.History.{Call, sends, admits, releases, Said, saidBy, saidByHost, said, left, after, Event, history, octetsOnly, granted, standing, memberCount}
 use Rattle.rules.specs.History.{freeTables}
 use Rattle.rules.specs.Sheet.{bindCount, entriesRead}
-use Rattle.rules.specs.Seen.{Contract, saidBy, saidByHost, Seen, begins, goes-on, calls, SeenHolds, SeenReads}
+use Rattle.rules.specs.Seen.{Contract, Seen, begins, goes-on, calls, SeenHolds, SeenReads}
 use Rattle.rules.proofs.Run.{same-room, held-run}
 use Rattle.rules.proofs.Condition3.{condition3}
 use Rattle.rules.proofs.Sheet.{is-the-sheet}
@@ -44,7 +44,8 @@ module _ {K L : Lent} (k : K ≡ L) where
       let w : x ≡ release L d = e ∙ ap (λ (X : Lent). release X d) k in
       record { told = ap saidByHost w; leaves = ap (λ (x : HostAnswer). x .tables) w }
 
-answer-of : {L M : Lent} {m r l : List ℕ} {a : Said} → AsRules L (sends m r l) a M → answer (a .outcome) M (a .reply) (a .list) ≡ message L m r l
+answer-of : {L M : Lent} {m r l : List ℕ} {a : Said} → AsRules L (sends m r l) a M
+    → explaining (a .outcome) (a .reason) M (a .reply) (a .list) ≡ message L m r l
 unfolding said left
 answer-of w = rw (w .told, w .leaves)
 

@@ -14,17 +14,17 @@ use Rattle.rules.specs.Message.{fields, payload}
 use Rattle.rules.specs.Sound.{distinct, soundTable}
 use Rattle.rules.specs.Payloads.{wanted}
 use Rattle.rules.specs.Sessions.{inSession, filterLength, entriesPlace, mostEntries, chosen, entriesBy, listing}
-use Rattle.rules.specs.Commands.{sessionOr, payloadFits, judge}
+use Rattle.rules.specs.Commands.{sessionOr, judge}
 use Rattle.rules.specs.History.{sends, said, after, history, octetsOnly, bindNamed, hasPage, standing}
 use Rattle.rules.specs.Sheet.{bindCount, entriesRead, readOf, IsTheSheet, SameRecords}
-use Rattle.rules.proofs.Lists.{split, count-keep, length-kept, keep-all, keep-alike, all-append}
+use Rattle.rules.proofs.Lists.{split, pass, count-keep, length-kept, keep-all, keep-alike, all-append}
 use Rattle.rules.proofs.Records.{Each, each-records, records-bytes, length-bytes}
 use Rattle.rules.proofs.Words.{shaped}
 use Rattle.rules.proofs.Numbers.{bind-named}
 use Rattle.rules.proofs.Changes.{all-used, shaped-records}
 use Rattle.rules.proofs.Kept.{Sane, sound-at}
 use Rattle.rules.proofs.Standing.{Agree}
-use Rattle.rules.proofs.Granted.{pass, invalid, unauthorized, no-session}
+use Rattle.rules.proofs.Granted.{no-session, passed}
 use Rattle.rules.proofs.Entries.{within-all, within-keep, within-take, within-distinct, entries-by}
 use Rattle.rules.proofs.Steps.{Reply, granted-reply, octets-payload}
 use Rattle.rules.proofs.Run.{held-run}
@@ -64,10 +64,10 @@ module _ (L : Lent) (S : Sane L) where
   -- a read was granted: its device has a session, and its payload the length of its filter
   read-granted : (s : DeviceAddress) (f : Filter) (p : List ℕ) → judge (tables L) s (GetEntries f) p ≡ ok
       → (inSession (tables L Sessions) s ≡ true) × (length p ≡ filterLength f)
-  unfolding judge payloadFits sessionOr
+  unfolding sessionOr
   read-granted s f p j =
-      let a = pass invalid (pass unauthorized j .1) in
-      (pass no-session (a .1) .0, eqb-true (length p) (filterLength f) (a .0))
+      let c = passed (tables L) s (GetEntries f) p j in
+      (pass no-session (c .verdict) .0, c .length)
 
   -- its reply says the entries that the tables give
   read-said : (m r l : List ℕ) (f : Filter) → Reply L m r l (GetEntries f) → entriesRead (said L (sends m r l)) ≡ entriesBy f (payload m) binds

@@ -2,7 +2,7 @@
 use Rattle.words.specs.Basics.{_≡_, refl, sym, ap, _∙_, Bool, true, false, cond, false≢true, List, [], _∷_, _++_, ℕ, eqb, length, drop, eqb-true}
 use Rattle.words.specs.Names.{code, ok, headerLength}
 use Rattle.words.specs.Outcomes.{numberOf}
-use Rattle.rules.specs.Types.{DeviceAddress, Code, Fields, Command, StartSession, Is, Binds, Members, Outcome, Way}
+use Rattle.rules.specs.Types.{DeviceAddress, Code, NoFault, Fields, Command, StartSession, Is, Binds, Members, Outcome, Way}
 use Rattle.rules.specs.Lists.{_&_}
 use Rattle.rules.specs.Octets.{octet, octets, over, octetString}
 use Rattle.rules.specs.Frame.{Lent, tables, Effect, nothing, changed}
@@ -12,7 +12,7 @@ use Rattle.rules.specs.Payloads.{command}
 use Rattle.rules.specs.Sessions.{closing}
 use Rattle.rules.specs.Commands.{row, judge, onOk, done, replyPayload}
 use Rattle.rules.specs.Host.{settled, admit, releasing, release}
-use Rattle.rules.specs.Calls.{Answer, answer, answered, handled, forwarded, follow, message}
+use Rattle.rules.specs.Calls.{Answer, answered, handled, forwarded, follow, message}
 use Rattle.rules.specs.History.{Call, sends, admits, releases, said, left, octetsOnly, granted, Entries, silence, lines, asked, entries}
 use Rattle.rules.specs.Sheet.{deviceOf, Starting}
 use Rattle.rules.proofs.Lists.{all-drop}
@@ -30,7 +30,7 @@ unfoldable pub grantedBy : Answer → Bool
 grantedBy a = eqb (numberOf (a .outcome)) 0 & eqb (octet headerLength (a .reply)) (ok .0)
 
 pub data Answers (L : Lent) (m r l : List ℕ) : Answer → Type 0 where
-  leaves : {a : Answer} → a .tables ≡ L → grantedBy a ≡ false → Answers L m r l a
+  leaves : {a : Answer} → a .tables ≡ L → eqb (numberOf (a .outcome)) 0 ≡ false → a .reason ≡ NoFault → Answers L m r l a
   handles : {k : Command} → command (fields m) ≡ Is k → Answers L m r l (handled L k (fields m) (payload m) r l)
 
 not-granted : (a : Answer) → eqb (numberOf (a .outcome)) 0 ≡ false → grantedBy a ≡ false
@@ -39,15 +39,15 @@ not-granted a h = rw h
 
 handed-on : (us : List ℕ) (L : Lent) (m r l : List ℕ) → Answers L m r l (forwarded us L r l)
 unfolding forwarded
-handed-on [] L m r l = leaves refl (not-granted _ refl)
-handed-on (u ∷ us) L m r l = leaves refl (not-granted _ refl)
+handed-on [] L m r l = leaves refl refl refl
+handed-on (u ∷ us) L m r l = leaves refl refl refl
 
 pub answers : (L : Lent) (m r l : List ℕ) → Answers L m r l (message L m r l)
 unfolding message follow
 answers L m r l = by (ways L m r l)
   where
     by : {w : Way} → Ways (Acting L m r l) (fields m) w → Answers L m r l (follow w L m r l)
-    by (refuses {o = o} n) = leaves refl (not-granted (answer o L r l) n.0)
+    by (refuses n) = leaves refl n.0 refl
     by (serves {k = k} p e) = handles e
     by (forwards {to = to} p e) = handed-on (recipients (tables L Binds) (tables L Members) to (fields m)) L m r l
 
@@ -79,7 +79,7 @@ unfolding said granted grantedBy handled answered
 granted-reply L m r l k d g = by (message L m r l) refl (answers L m r l)
   where
     by : (a : Answer) → message L m r l ≡ a → Answers L m r l a → Reply L m r l k
-    by a e (leaves t n) = absurd (false≢true (sym (ap grantedBy e ∙ n) ∙ g))
+    by a e (leaves t n f) = absurd (false≢true (sym (ap grantedBy e ∙ not-granted a n) ∙ g))
     by a e (handles {k = i} c) =
         let z : i ≡ k = cc in
         let s : message L m r l ≡ handled L k (fields m) (payload m) r l = rw z at e in
@@ -146,11 +146,11 @@ unfolding left said granted entries asked grantedBy handled answered
 step-message L m r l o S = by (message L m r l) refl (answers L m r l)
   where
     by : (a : Answer) → message L m r l ≡ a → Answers L m r l a → Step L (sends m r l)
-    by a e (leaves t n) = record {
+    by a e (leaves t n f) = record {
       change = nothing;
       leaves = ap (λ (x : Answer). x .tables) e ∙ t ∙ sym (changed-nothing L);
       ok = ok-nothing L;
-      told = told-when (entries (sends m r l)) (ap grantedBy e ∙ n) (told-refused (entries (sends m r l)));
+      told = told-when (entries (sends m r l)) (ap grantedBy e ∙ not-granted a n) (told-refused (entries (sends m r l)));
       shuts = shuts-nothing (tables L) (fields m .source);
     }
     by a e (handles {k = k} d) =

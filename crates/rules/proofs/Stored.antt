@@ -3,10 +3,10 @@ use Rattle.words.specs.Basics.{_≡_, refl, Bool, true, false, _&&_, List, [], 
 use Rattle.words.specs.Basics.{replicate, length-append, length-replicate, drop-at, eq-eqb, ne-eqb, leb-true, le-leb}
 use Rattle.rules.specs.Types.{DeviceAddress, GroupAddress, Devices, Binds, Groups, Members, Sessions}
 use Rattle.rules.specs.Lists.{all}
-use Rattle.rules.specs.Octets.{octet, word, octets, ignoreTop, octetString}
+use Rattle.rules.specs.Octets.{octet, word, octets, flag, ignoreTop, octetString}
 use Rattle.rules.specs.Tables.{Rec, free?}
 use Rattle.rules.specs.Layout.{size, key, unitsLength, longestName, deviceAddress, deviceRights, deviceUnits, deviceRecord, groupRecord}
-use Rattle.rules.specs.Layout.{sessionRecord}
+use Rattle.rules.specs.Layout.{bindSource, sessionRecord}
 use Rattle.rules.specs.Sound.{addressFits, deviceInRange, deviceFits, groupFits}
 use Rattle.rules.specs.Payloads.{bindOf, memberOf, groupNamed}
 use Rattle.rules.proofs.Lists.{and-parts, split, join, all-append, all-replicate}
@@ -53,6 +53,11 @@ pub named-small : (p : List ℕ) → octetString p ≡ true → groupNamed p .0 
 unfolding groupNamed word ignoreTop
 named-small [] h = omega arith
 named-small (o ∷ p) h = omega (arith, octet-small (o ∷ p) 1 h)
+
+-- .. as is a source's: "Octet 1's top bit .. is ignored in a command and stored as 0"
+pub source-flag : (p : List ℕ) → octetString p ≡ true → eqb (flag (bindSource (bindOf p) .0)) 0 ≡ true
+unfolding groupNamed bindOf flag
+source-flag p h = eq-eqb (flag (bindSource (bindOf p) .0)) 0 (omega (arith, named-small p h))
 
 -- the record of a group
 module _ (g : GroupAddress) (p : List ℕ) where

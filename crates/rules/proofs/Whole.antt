@@ -1,6 +1,7 @@
 -- Opens every definition of the rules at once, for statements that compute: one line a file of specs/.
 use mathlib.Core.List as list
 use Rattle.words.specs.Basics.{ℕ}
+use Rattle.words.specs.Reasons as reasons
 use Rattle.rules.specs.Lists as lists
 use Rattle.rules.specs.Octets as octets
 use Rattle.rules.specs.Units as units
@@ -9,6 +10,7 @@ use Rattle.rules.specs.Layout as layout
 use Rattle.rules.specs.Frame as frame
 use Rattle.rules.specs.Message as message
 use Rattle.rules.specs.Exists as exists
+use Rattle.rules.specs.Faults as faults
 use Rattle.rules.specs.Sound as sound
 use Rattle.rules.specs.Recipients as recipients
 use Rattle.rules.specs.Payloads as payloads
@@ -65,12 +67,16 @@ unfoldable of-exists : ℕ
 unfolding exists.admitted exists.hasUnit exists.unitExists exists.deviceExists exists.mayCommand exists.hasRights exists.groupExists
 of-exists = 0
 
+unfoldable of-faults : ℕ
+unfolding faults.fault faults.addFault reasons.faultless
+of-faults = 0
+
 unfoldable of-sound : ℕ
-unfolding sound.wholeRecords sound.addressFits sound.deviceInRange sound.deviceFits sound.groupFits sound.destinationFits sound.bindFits
+unfolding sound.wholeRecords sound.addressFits sound.deviceInRange sound.deviceFits sound.groupFits sound.bindFits
 of-sound = 0
 
 unfoldable of-sound-2 : ℕ
-unfolding sound.sourceFits sound.memberFits sound.sessionFits sound.fits sound.distinct sound.soundTable sound.sound
+unfolding sound.memberFits sound.sessionFits sound.fits sound.distinct sound.soundTable sound.sound
 of-sound-2 = 0
 
 unfoldable of-recipients : ℕ
@@ -98,7 +104,7 @@ unfolding commands.groupInfo commands.rightsFit commands.payloadFits commands.ju
 of-commands-2 = 0
 
 unfoldable of-commands-3 : ℕ
-unfolding commands.opening commands.sessionOr
+unfolding commands.opening commands.sessionOr commands.explained
 of-commands-3 = 0
 
 unfoldable of-copy : ℕ
@@ -150,7 +156,7 @@ unfolding of-lists of-octets of-units of-tables of-tables-2 of-layout of-layout-
 tables-and-messages = 0
 
 unfoldable commands-and-calls : ℕ
-unfolding of-sound-2 of-recipients of-payloads of-payloads-2 of-sessions of-commands of-commands-2 of-commands-3 of-copy of-carry of-carry-2
+unfolding of-faults of-sound-2 of-recipients of-payloads of-payloads-2 of-sessions of-commands of-commands-2 of-commands-3 of-copy of-carry of-carry-2
 commands-and-calls = 0
 
 unfoldable pub whole : ℕ

@@ -5,7 +5,7 @@ use Rattle.words.specs.declared.Decoded.the-variants.{Is, NotServed}
 use Rattle.words.specs.declared.Destination.{Destination}
 use Rattle.words.specs.declared.Outcome.the-variants.{Done, Forwarded, Nobody, NoSource, NoDestination, ResponseToMany, Unsound, NoRoom, NotServed as Eighteen}
 use Rattle.rules.specs.Types.{Code, Fields, Concentrator, BindAddress, Unit, Group, Command, Decoded, Devices, Binds, Groups, Members, Outcome, Way}
-use Rattle.rules.specs.Types.{Refuse, Serve, Forward}
+use Rattle.rules.specs.Types.{Refuse, Serve, Forward, Reason, NoFault}
 use Rattle.rules.specs.Lists.{ask, _&_}
 use Rattle.rules.specs.Octets.{over}
 use Rattle.rules.specs.Units.{unitOctets}
@@ -17,7 +17,7 @@ use Rattle.rules.specs.Exists.{unitExists, groupExists}
 use Rattle.rules.specs.Sound.{sound}
 use Rattle.rules.specs.Recipients.{recipients}
 use Rattle.rules.specs.Payloads.{command}
-use Rattle.rules.specs.Commands.{judge, done, replyPayload}
+use Rattle.rules.specs.Commands.{judge, explained, done, replyPayload}
 
 -- outcome 17: "reply under 500 octets, or recipient list under 3 × max(1, bind records + member records), .. lengths divided down"
 unfoldable pub roomy : List ℕ → List ℕ → List ℕ → List ℕ → Bool
@@ -62,18 +62,24 @@ way L m reply list =
 -- what a message answers, and what the tables, the reply and the list then hold
 pub record Answer : Type 0 where
   pub outcome : Outcome
+  -- what is wrong with an Add Bind that is answered 0x02 (document 02, request 6)
+  pub reason : Reason
   pub tables : Lent
   pub reply : List ℕ
   pub list : List ℕ
 
+abbrev pub explaining : Outcome → Reason → Lent → List ℕ → List ℕ → Answer
+explaining o f L r l = record { outcome = o; reason = f; tables = L; reply = r; list = l }
+
+-- "With any other .. outcome reason and octet are 0."
 abbrev pub answer : Outcome → Lent → List ℕ → List ℕ → Answer
-answer o L r l = record { outcome = o; tables = L; reply = r; list = l }
+answer o L r l = explaining o NoFault L r l
 
 -- a command with this code: the tables as it leaves them, and the reply, whose length is returned
 unfoldable pub answered : Lent → Command → Fields → List ℕ → Code → List ℕ → List ℕ → Answer
 answered L k f p c r l =
     let q : List ℕ = replyPayload (tables L) k p c in
-    answer (Done (headerLength + length q)) (changed (done (tables L) (f .source) k p c) L) (over (reply f q) r) l
+    explaining (Done (headerLength + length q)) (explained (tables L) k p c) (changed (done (tables L) (f .source) k p c) L) (over (reply f q) r) l
 
 -- .. the code being that of its checks
 unfoldable pub handled : Lent → Command → Fields → List ℕ → List ℕ → List ℕ → Answer

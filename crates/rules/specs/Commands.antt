@@ -1,9 +1,10 @@
 -- The commands (document 01, Commands and codes): a row for each, with its checks and codes in the paper's order, what it changes, and what its
 -- reply has behind 0x00.
 use Rattle.words.specs.Basics.{Bool, true, false, cond, not, _||_, List, [], _∷_, _++_, ℕ, zero, suc, _+_, eqb, leb, length}
+use Rattle.words.specs.Reasons.{faultless}
 use Rattle.words.specs.Names.{ok, notAuthorized, invalidArgument, noReadSession, notEnoughResources, unknownReason, group, lowest}
-use Rattle.rules.specs.Types.{DeviceAddress, GroupAddress, Code, Command, AddBind, RemoveBinds, StartSession, EndSession, GetEntries, CreateGroup}
-use Rattle.rules.specs.Types.{DeleteGroup, AddToGroup, RemoveFromGroup, GetGroupInfo, Devices, Binds, Groups, Members, Sessions}
+use Rattle.rules.specs.Types.{DeviceAddress, GroupAddress, Code, Reason, NoFault, Command, AddBind, RemoveBinds, StartSession, EndSession, GetEntries}
+use Rattle.rules.specs.Types.{CreateGroup, DeleteGroup, AddToGroup, RemoveFromGroup, GetGroupInfo, Devices, Binds, Groups, Members, Sessions}
 use Rattle.rules.specs.Lists.{any, firstOf, ask}
 use Rattle.rules.specs.Octets.{octet, octets}
 use Rattle.rules.specs.Units.{unitOctets, ordered}
@@ -12,19 +13,21 @@ use Rattle.rules.specs.Layout.{size, addressLength, partIs, partLength, 
 use Rattle.rules.specs.Layout.{sessionRecord}
 use Rattle.rules.specs.Frame.{Tables, Effect, nothing, only, also}
 use Rattle.rules.specs.Exists.{hasRights, groupExists}
-use Rattle.rules.specs.Sound.{bindFits, memberFits}
+use Rattle.rules.specs.Sound.{memberFits}
 use Rattle.rules.specs.Recipients.{membersOf}
 use Rattle.rules.specs.Payloads.{bindOf, wanted, memberOf, groupNamed}
+use Rattle.rules.specs.Faults.{addFault}
 use Rattle.rules.specs.Sessions.{inSession, closing, filterLength, entriesBy, listing}
 
 -- Checks that several commands share
 
--- an addition: 0x02 where the record is there, then 0xFE if and only if no record is free
+-- an addition: 0xFE if and only if no record is free
+abbrev pub roomIn : List Rec → Code
+roomIn t = ask (someFree t) notEnoughResources ok
+
+-- .. and before it 0x02 where the record is there
 unfoldable pub addition : Rec → List Rec → Code
-addition r t =
-    ask (not (any (matches 0 r) (used t))) invalidArgument
-    (ask (someFree t) notEnoughResources
-    ok)
+addition r t = ask (not (any (matches 0 r) (used t))) invalidArgument (roomIn t)
 
 -- a removal: 0x02 where nothing matches
 unfoldable pub removal : (Rec → Bool) → List Rec → Code
@@ -46,7 +49,7 @@ sessionOr c s ss = ask (inSession ss s) c ok
 
 -- "0xFE for a name over 13 octets or no free record"
 unfoldable pub creation : List ℕ → List Rec → Code
-creation p gs = ask (leb (octet 0 p) longestName) notEnoughResources (ask (someFree gs) notEnoughResources ok)
+creation p gs = ask (leb (octet 0 p) longestName) notEnoughResources (roomIn gs)
 
 -- "The address is the smallest from 0x0001 not in use.": of n + 1 addresses one is not
 unfoldable pub smallest : (ℕ → Bool) → ℕ → ℕ → ℕ
@@ -74,19 +77,26 @@ pub record Row : Type 0 where
   pub rights : Bool
   -- how long should this payload be?
   pub length : List ℕ → ℕ
-  -- the code of the checks behind these two, by the tables, the sender's device and the payload
+  -- what its caller is told of a payload that it answers 0x02 (document 02, request 6: of Add Bind alone)
+  pub fault : Tables → List ℕ → Reason
+  -- the code of the checks behind these, by the tables, the sender's device and the payload
   pub verdict : Tables → DeviceAddress → List ℕ → Code
   -- what it changes, answered 0x00
   pub effect : Tables → DeviceAddress → List ℕ → Effect
   -- what its reply has behind 0x00
   pub behind : Tables → List ℕ → List ℕ
 
+-- nothing is told
+abbrev pub unexplained : Tables → List ℕ → Reason
+unexplained T p = NoFault
+
 abbrev pub row : Command → Row
 row AddBind =
     record {
       rights = true;
       length = λ p. size Binds;
-      verdict = λ T s p. ask (bindFits (T Devices) (T Groups) (bindOf p)) invalidArgument (addition (bindOf p) (T Binds));
+      fault = λ T p. addFault (T Devices) (T Binds) (T Groups) p;
+      verdict = λ T s p. roomIn (T Binds);
       effect = λ T s p. only Binds (store (bindOf p));
       behind = λ T p. [];
     }
@@ -94,6 +104,7 @@ row (RemoveBinds q) =
     record {
       rights = true;
       length = λ p. partLength q;
+      fault = unexplained;
       verdict = λ T s p. removal (partIs q (wanted q p)) (T Binds);
       effect = λ T s p. only Binds (wipe (partIs q (wanted q p)));
       behind = λ T p. [];
@@ -102,6 +113,7 @@ row StartSession =
     record {
       rights = true;
       length = λ p. 0;
+      fault = unexplained;
       verdict = λ T s p. opening s (T Sessions);
       -- a second Start changes nothing
       effect = λ T s p. cond (inSession (T Sessions) s) nothing (only Sessions (store (sessionRecord s)));
@@ -111,6 +123,7 @@ row EndSession =
     record {
       rights = false;
       length = λ p. 0;
+      fault = unexplained;
       verdict = λ T s p. sessionOr unknownReason s (T Sessions);
       effect = λ T s p. only Sessions (wipe (addressed (s .0)));
       behind = λ T p. [];
@@ -119,6 +132,7 @@ row (GetEntries f) =
     record {
       rights = false;
       length = λ p. filterLength f;
+      fault = unexplained;
       verdict = λ T s p. sessionOr noReadSession s (T Sessions);
       effect = λ T s p. nothing;
       behind = λ T p. listing (entriesBy f p (T Binds));
@@ -128,6 +142,7 @@ row CreateGroup =
       rights = true;
       -- name length and name, "so an empty payload is wrong"
       length = λ p. 1 + octet 0 p;
+      fault = unexplained;
       verdict = λ T s p. creation p (T Groups);
       effect = λ T s p. only Groups (store (groupRecord (newGroup (T Groups)) p));
       behind = λ T p. octets (newGroup (T Groups) .0);
@@ -136,6 +151,7 @@ row DeleteGroup =
     record {
       rights = true;
       length = λ p. addressLength;
+      fault = unexplained;
       verdict = λ T s p. naming (groupNamed p) (T Groups);
       effect = λ T s p.
           also Groups (wipe (addressed (groupNamed p .0))) (also Members (wipe (inGroup (groupNamed p))) (only Binds (wipe (toThisGroup (groupNamed p)))));
@@ -145,6 +161,7 @@ row AddToGroup =
     record {
       rights = true;
       length = λ p. size Members;
+      fault = unexplained;
       verdict = λ T s p. ask (memberFits (T Devices) (T Groups) (memberOf p)) invalidArgument (addition (memberOf p) (T Members));
       effect = λ T s p. only Members (store (memberOf p));
       behind = λ T p. [];
@@ -153,6 +170,7 @@ row RemoveFromGroup =
     record {
       rights = true;
       length = λ p. size Members;
+      fault = unexplained;
       verdict = λ T s p. removal (matches 0 (memberOf p)) (T Members);
       effect = λ T s p. only Members (wipe (matches 0 (memberOf p)));
       behind = λ T p. [];
@@ -161,6 +179,7 @@ row GetGroupInfo =
     record {
       rights = false;
       length = λ p. addressLength;
+      fault = unexplained;
       verdict = λ T s p. naming (groupNamed p) (T Groups);
       effect = λ T s p. nothing;
       behind = λ T p. groupInfo (T Groups) (T Members) (groupNamed p);
@@ -176,12 +195,17 @@ rightsFit ds s k = cond (row k .rights) (hasRights ds s) true
 unfoldable pub payloadFits : Command → List ℕ → Bool
 payloadFits k p = eqb (length p) (row k .length p)
 
--- the code of a command k with payload p from the device s: 0x01, 0x02 for its length, then its own
+-- the code of a command k with payload p from the device s: 0x01, 0x02 for its length and for what its caller is told, then its own
 unfoldable pub judge : Tables → DeviceAddress → Command → List ℕ → Code
 judge T s k p =
     ask (rightsFit (T Devices) s k) notAuthorized
     (ask (payloadFits k p) invalidArgument
-    (row k .verdict T s p))
+    (ask (faultless (row k .fault T p)) invalidArgument
+    (row k .verdict T s p)))
+
+-- "With any other code .. reason and octet are 0."
+unfoldable pub explained : Tables → Command → List ℕ → Code → Reason
+explained T k p c = cond (eqb (c .0) (invalidArgument .0)) (row k .fault T p) NoFault
 
 -- the first where the code is 0x00, else the second
 unfoldable pub onOk : {A : Type 0} → Code → A → A → A

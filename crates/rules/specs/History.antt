@@ -8,7 +8,7 @@ use Rattle.words.specs.Outcomes.{numberOf}
 use Rattle.words.specs.declared.Decoded.the-variants.{Is, NotServed}
 use Rattle.rules.specs.Types.{DeviceAddress, GroupAddress, Fields, BindAddress, BindPart, Command, AddBind, RemoveBinds, StartSession, EndSession}
 use Rattle.rules.specs.Types.{GetEntries, CreateGroup, DeleteGroup, AddToGroup, RemoveFromGroup, GetGroupInfo, Decoded, Kind, Devices, Binds, Groups}
-use Rattle.rules.specs.Types.{Members, Sessions, Outcome}
+use Rattle.rules.specs.Types.{Members, Sessions, Outcome, Reason, NoFault}
 use Rattle.rules.specs.Lists.{count, any, all, keep, has, _&_}
 use Rattle.rules.specs.Octets.{octet, word, octets, number, joined, octetString}
 use Rattle.rules.specs.Units.{unitNumber, rising}
@@ -20,8 +20,8 @@ use Rattle.rules.specs.Frame.{Lent, lentOf, everyTable, also, table}
 use Rattle.rules.specs.Message.{fields, payload, sender, destination, response, lengthFits, dataLengthFits, typeFits}
 use Rattle.rules.specs.Sound.{wholeRecords, sound}
 use Rattle.rules.specs.Payloads.{command}
-use Rattle.rules.specs.Host.{admit, release}
-use Rattle.rules.specs.Calls.{roomy, message, forwarded}
+use Rattle.rules.specs.Host.{HostAnswer, admit, release}
+use Rattle.rules.specs.Calls.{roomy, Answer, message, forwarded}
 
 -- A run
 
@@ -31,16 +31,24 @@ pub data Call : Type 0 where
   admits : DeviceAddress → ℕ → List ℕ → Call
   releases : DeviceAddress → Call
 
--- what a caller is told: the outcome, and the reply and the list as they come back
+-- what a caller is told: the outcome, the reason, and the reply and the list as they come back
 pub record Said : Type 0 where
   pub outcome : Outcome
+  pub reason : Reason
   pub reply : List ℕ
   pub list : List ℕ
 
+abbrev pub saidBy : Answer → Said
+saidBy x = record { outcome = x .outcome; reason = x .reason; reply = x .reply; list = x .list }
+
+-- a host call has no reply and no list, and gives no reason
+abbrev pub saidByHost : HostAnswer → Said
+saidByHost x = record { outcome = x .outcome; reason = NoFault; reply = []; list = [] }
+
 unfoldable pub said : Lent → Call → Said
-said L (sends m r l) = record { outcome = message L m r l .outcome; reply = message L m r l .reply; list = message L m r l .list }
-said L (admits d rights us) = record { outcome = admit L d rights us .outcome; reply = []; list = [] }
-said L (releases d) = record { outcome = release L d .outcome; reply = []; list = [] }
+said L (sends m r l) = saidBy (message L m r l)
+said L (admits d rights us) = saidByHost (admit L d rights us)
+said L (releases d) = saidByHost (release L d)
 
 -- the tables that a call leaves
 unfoldable pub left : Lent → Call → Lent

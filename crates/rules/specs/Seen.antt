@@ -11,22 +11,13 @@ use Rattle.rules.specs.Frame.{Lent}
 use Rattle.rules.specs.Message.{fields, payload}
 use Rattle.rules.specs.Sound.{distinct, sound}
 use Rattle.rules.specs.Payloads.{command}
-use Rattle.rules.specs.Host.{HostAnswer}
-use Rattle.rules.specs.Calls.{roomy, Answer, answer, forwarded}
+use Rattle.rules.specs.Calls.{roomy, explaining, forwarded}
 use Rattle.rules.specs.History.{Call, sends, Said, Event, octetsOnly, granted, groupSaid, standing, counted, Request, Exactly, memberCount}
 use Rattle.rules.specs.Sheet.{bindCount, entriesRead, readOf, NoStart, SameRecords}
 
 -- what it is to meet a contract: the call, made on the tables L, told its caller a, and left the tables M
 abbrev pub Contract : Type 1
 Contract = (L : Lent) → Call → (a : Said) → (M : Lent) → Type 0
-
--- what an answer tells a caller: a host call has no reply and no list
-
-abbrev pub saidBy : Answer → Said
-saidBy x = record { outcome = x .outcome; reply = x .reply; list = x .list }
-
-abbrev pub saidByHost : HostAnswer → Said
-saidByHost x = record { outcome = x .outcome; reply = []; list = [] }
 
 -- from the tables L₀ on, calls that met their contract, the latest first, and the tables that they left
 pub data Seen (Meets : Contract) (L₀ : Lent) : List Event → Lent → Type 0 where
@@ -43,7 +34,7 @@ pub record SeenHolds (Meets : Contract) (h : List Event) (L : Lent) : Type 0 whe
   pub sound : sound L ≡ true
   -- one more message, a well-formed request with enough room, is answered the units that are linked by what was seen, and changes no table
   pub delivered : {m r l : List ℕ} {a : Said} {M : Lent} → Meets L (sends m r l) a M → Request h m → roomy (L .binds) (L .members) r l ≡ true
-      → (us : List ℕ) → Exactly h (fields m) us → answer (a .outcome) M (a .reply) (a .list) ≡ forwarded us L r l
+      → (us : List ℕ) → Exactly h (fields m) us → explaining (a .outcome) (a .reason) M (a .reply) (a .list) ≡ forwarded us L r l
   -- there is such a list
   pub linked-units : (m : List ℕ) → octetString m ≡ true → (us : List ℕ) × Exactly h (fields m) us
   -- one more message, Get Group Info and granted, is told the number of members by what was seen

@@ -1,15 +1,16 @@
 -- "Tables are sound if" (document 01, Tables; of sessions document 02, request 1)
-use Rattle.words.specs.Basics.{Bool, true, cond, not, _&&_, _||_, List, [], _∷_, ℕ, _*_, _%_, eqb, leb, length, take}
+use Rattle.words.specs.Basics.{Bool, true, not, _&&_, _||_, List, [], _∷_, ℕ, _*_, _%_, eqb, leb, length, take}
 use Rattle.words.specs.Names.{lowest, highest, noUnit}
+use Rattle.words.specs.Reasons.{faultless}
 use Rattle.rules.specs.Types.{DeviceAddress, Kind, Devices, Binds, Groups, Members, Sessions}
 use Rattle.rules.specs.Lists.{any, all, _&_}
 use Rattle.rules.specs.Octets.{flag}
 use Rattle.rules.specs.Tables.{Rec, records, free?, used, matches}
 use Rattle.rules.specs.Layout.{size, most, key, inSet, deviceAddress, deviceRights, deviceZero, deviceUnits}
-use Rattle.rules.specs.Layout.{bindSource, bindSourceUnit, bindFrom, fromAnyDevice, fromAnyUnit, toGroup, boundGroup, boundDevice, bindUnit, bindTo}
-use Rattle.rules.specs.Layout.{longestName, groupAddress, nameLength, namePadding, memberGroup, memberDevice, memberUnit, sessionDevice}
+use Rattle.rules.specs.Layout.{bindSource, longestName, groupAddress, nameLength, namePadding, memberGroup, memberDevice, memberUnit, sessionDevice}
 use Rattle.rules.specs.Frame.{Lent, lentOf, everyTable, tables}
 use Rattle.rules.specs.Exists.{unitExists, deviceExists, groupExists}
+use Rattle.rules.specs.Faults.{bindFault}
 
 -- "each length is a multiple of its record size and within the limit": records of k octets, n at most
 unfoldable pub wholeRecords : ℕ → ℕ → List ℕ → Bool
@@ -31,28 +32,9 @@ deviceFits r = deviceInRange (deviceAddress r) (deviceRights r) (deviceUnits r) 
 unfoldable pub groupFits : Rec → Bool
 groupFits r = addressFits (groupAddress r .0) & leb (nameLength r) longestName & all (λ o. eqb o 0x00) (namePadding r)
 
--- the source (document 02, request 4): beside any device every unit will do, "a unit written out .. may be 0 to 254" or any; a device written out exists,
--- and has the unit that is written out beside it
-unfoldable pub sourceFits : List Rec → Rec → Bool
-sourceFits ds b =
-    cond (fromAnyDevice b) true
-    (cond (fromAnyUnit b) (deviceExists ds (bindSource b))
-    (unitExists ds (bindSource b) (bindSourceUnit b)))
-
--- the destination is a group that exists, or a unit that exists and is not the source unit itself. No destination is any, so that two equal numbers are a
--- unit bound to itself "where both are written out" (document 02, request 4)
-unfoldable pub destinationFits : List Rec → List Rec → Rec → Bool
-destinationFits ds gs b =
-    cond (toGroup b) (groupExists gs (boundGroup b))
-    (unitExists ds (boundDevice b) (bindUnit b) & not (eqb (bindTo b) (bindFrom b)))
-
 -- the field rules of Add Bind (document 01, Commands and codes; document 02, request 4: every UID will do), and "a bind's octet 1 with top bit 0"
 unfoldable pub bindFits : List Rec → List Rec → Rec → Bool
-bindFits ds gs b =
-    eqb (flag (bindSource b .0)) 0
-    & sourceFits ds b
-    & not (eqb (bindUnit b) noUnit)
-    & destinationFits ds gs b
+bindFits ds gs b = eqb (flag (bindSource b .0)) 0 & faultless (bindFault ds gs b)
 
 -- "each device and unit named exists; each group named exists"
 unfoldable pub memberFits : List Rec → List Rec → Rec → Bool

@@ -19,6 +19,10 @@ pub use Rattle.words.specs.declared.Kind.the-variants.{Devices, Binds, Groups, 
 pub use Rattle.words.specs.declared.Outcome.{Outcome}
 pub use Rattle.words.specs.declared.Outcome.the-variants.{Done, Forwarded, Nobody, WrongLength, WrongDataLength, WrongType, NoSource, NoDestination}
 pub use Rattle.words.specs.declared.Outcome.the-variants.{ResponseToMany, Unsound, NoRoom, NoCopy, OutOfRange, AlreadyAdmitted, NoFreeRecord, NotAdmitted}
+pub use Rattle.words.specs.declared.Reason.{Reason}
+pub use Rattle.words.specs.declared.Reason.the-variants.{NoFault, PayloadLength, NoSourceDevice, NoSourceUnit, DestinationUnitFF, NoDestinationDevice}
+pub use Rattle.words.specs.declared.Reason.the-variants.{NoDestinationUnit, NoGroup, BoundToItself, AlreadyPresent}
 pub use Rattle.words.specs.declared.Way.{Way}
 pub use Rattle.words.specs.declared.Way.the-variants.{Refuse, Serve, Forward}
+pub use Rattle.words.specs.declared.Told.{Told}
 pub use Rattle.words.specs.declared.Reading.{Reading}

@@ -2,3 +2,4 @@
 pub mod Basics
 pub mod Names
 pub mod Outcomes
+pub mod Reasons

@@ -4,6 +4,7 @@ mod codes;
 mod headers;
 mod numbers;
 mod outcomes;
+mod reasons;
 
 // A device's address. D'0001 and G'0001 are the same number and different things (document 01, Tables).
 pub struct DeviceAddress(pub u16);
@@ -106,11 +107,31 @@ pub enum Outcome {
     NotAdmitted,
 }
 
+// What is wrong with an Add Bind that is answered 0x02 (document 02, request 6). `NoFault` is told with any other code or outcome.
+pub enum Reason {
+    NoFault,
+    PayloadLength,
+    NoSourceDevice,
+    NoSourceUnit,
+    DestinationUnitFF,
+    NoDestinationDevice,
+    NoDestinationUnit,
+    NoGroup,
+    BoundToItself,
+    AlreadyPresent,
+}
+
 // What a message comes to: refused, a command, or a message to hand on.
 pub enum Way {
     Refuse(Outcome),
     Serve(Command),
     Forward(Destination),
+}
+
+// What handling a message gives, beside what it writes.
+pub struct Told {
+    pub outcome: Outcome,
+    pub reason: Reason,
 }
 
 // What reading a message gives.

@@ -17,4 +17,4 @@ act-spec =
     (λ c. search arms) (λ c. search arms) (λ c. search arms) (λ c. search arms) (λ c. search arms) (λ c. search arms) (λ c. search arms) (λ c. search arms)
     (λ c. search arms) (λ c. search arms) (λ c. search arms) (λ c. search arms) (λ c. search arms) (λ c. search arms) (λ c. search arms) (λ c. search arms)
     (λ c. search arms) (λ c. search arms) (λ c. search arms) (λ c. search arms) (λ c. search arms) (λ c. search arms) (λ c. search arms) (λ c. search arms)
-    (λ c. search arms) (λ c. search arms) (λ c. search arms) (λ c. search arms) (λ c. search arms) (λ c. search arms) (λ c. search arms))
+    (λ c. search arms) (λ c. search arms) (λ c. search arms) (λ c. search arms) (λ c. search arms) (λ c. search arms))

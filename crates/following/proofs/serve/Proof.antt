@@ -14,11 +14,11 @@ abbrev header-on : tie.After-write-header-arg → tie.After-perform
 header-on h = search h
 
 -- what was performed fits behind the header
-short : (p : tie.After-perform) → headerLength + p .perform .result ≤ longest
+short : (p : tie.After-perform) → headerLength + p .perform .result .length ≤ longest
 short p =
     let start = from-start p in
     performed-short _ (start .args .command) (start .args .f) (now (start .args .payload)) (now (start .args .reply)) (start .pre .room)
-    (p .perform .kept .1 .1 .1 .1 .1 .1 .1 .1 .0) (p .perform .ensures (start .pre .tables .lent))
+    (p .perform .kept .1 .1 .1 .1 .1 .1 .1 .1 .0) (p .perform .ensures (start .pre .tables .lent) .0)
 
 write-header-requires : tie.Need-write-header-requires
 write-header-requires c κs =
@@ -31,17 +31,17 @@ write-header-requires c κs =
 
 returns : tie.Need-returns
 returns c = λ L.
-    let h = c .before .before in
+    let h : tie.After-write-header = search c in
     let p = header-on (h .before) in
     let start = from-start p in
     rw (h .write-header .ensures)
     (serves _ (start .args .command) (start .args .f) (now (start .args .payload)) (now (start .args .reply)) (start .pre .room)
-    (p .perform .kept .1 .1 .1 .1 .1 .1 .1 .1 .0) (p .perform .ensures L))
+    (p .perform .kept .1 .1 .1 .1 .1 .1 .1 .1 .0) (p .perform .ensures L .0) (p .perform .ensures L .1))
 
 pub serve-spec : {M : Type 1} → statement M
 serve-spec =
     tie.close
     (tie.spec
     (λ c. search needs) (λ c. search needs) (λ c. search needs) (λ c κs. search needs) write-header-requires
-    (λ c. omega (arith, short (header-on (c .before .before .before))))
+    (λ c. let h : tie.After-write-header = search c in omega (arith, short (header-on (h .before))))
     (λ c. search needs) (λ c. search needs) (λ c. search needs) (λ c. search needs) (λ c. search needs) returns)

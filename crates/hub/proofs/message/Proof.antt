@@ -35,9 +35,10 @@ forward-requires c κs =
 
 returns : tie.Need-returns
 returns c =
-    let s = c .before in
+    let u : tie.After-unexplained = search c in
+    let s : tie.After-way = search c in
     let w = s .before .before .before in
-    refuses _ _ _ _ (w .way-of .ensures _ (to-read w .read .ensures)) (s .way .given .1)
+    refuses _ _ _ _ (w .way-of .ensures _ (to-read w .read .ensures)) (s .way .given .1) (u .unexplained .ensures)
 
 returns-2 : tie.Need-returns-2
 returns-2 c =
@@ -49,19 +50,19 @@ returns-2 c =
 
 returns-3 : tie.Need-returns-3
 returns-3 c =
-    let a = c .before .before in
-    let s = a .before .before .before .before .before in
+    let u : tie.After-unexplained2 = search c in
+    let a : tie.After-forward = search c in
+    let s : tie.After-way3 = search c in
     let w = s .before .before .before in
     let read = to-read w .read .ensures in
-    forwarded-whole _ _ _ _ (w .way-of .ensures _ read) (s .way3 .given .1) read (a .forward .ensures)
+    forwarded-whole _ _ _ _ (w .way-of .ensures _ read) (s .way3 .given .1) read (a .forward .ensures) (u .unexplained2 .ensures)
 
 pub message-spec : {M : Type 1} → statement M
 message-spec =
     tie.close
     (tie.spec
-    (λ c κs. search needs) (λ c κs. search needs) (λ c. search needs) (λ c. search needs) sub-serve part-serve-start (λ c. search needs) serve-requires
-    (λ c. search needs)
-    forward-requires (λ c. search needs) (λ c. search needs) (λ c. search needs) (λ c. search needs) (λ c. search needs) (λ c. search needs) (λ c. search needs)
-    returns
+    (λ c κs. search needs) (λ c κs. search needs) (λ c. search needs) (λ c κs. search needs) (λ c. search needs) sub-serve part-serve-start
+    (λ c. search needs) serve-requires (λ c. search needs) forward-requires (λ c κs. search needs)
+    (λ c. search needs) (λ c. search needs) (λ c. search needs) (λ c. search needs) (λ c. search needs) (λ c. search needs) (λ c. search needs) returns
     (λ c. search needs) (λ c. search needs) (λ c. search needs) (λ c. search needs) (λ c. search needs) (λ c. search needs) (λ c. search needs) returns-2
     (λ c. search needs) (λ c. search needs) (λ c. search needs) (λ c. search needs) (λ c. search needs) (λ c. search needs) (λ c. search needs) returns-3)
