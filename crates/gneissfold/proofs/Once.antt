@@ -28,7 +28,7 @@ use Rattle.gneissfold.proofs.gneissfold_read.Reads as read-reads
 -- what a call tells and leaves: its number, what is lent to be written as it is at exit, the rest as it was lent
 abbrev pub message-tells : (κs : Lfts (gneissfold_message.signature .lifetimes)) (a : World.ArgsD gneissfold_message.signature κs)
     (r : World.ResD gneissfold_message.signature κs) (s : Clauses.AtExit (K.endedOf _ message-kinds.ps message-kinds.r) κs) → MessageTold
-message-tells κs a r s = messageTold r (now (s .1 .1 .1 .1 .1 .1 .1 .1 .0))
+message-tells κs a r s = messageTold r (now (s .1 .1 .1 .1 .1 .1 .1 .1 .0)) (now (s .1 .1 .1 .1 .1 .1 .1 .1 .1 .0)) (now (s .1 .1 .1 .1 .1 .1 .1 .1 .1 .1 .0))
     (lent (now (s .0)) (now (s .1 .0)) (now (s .1 .1 .0)) (now (s .1 .1 .1 .0)) (now (s .1 .1 .1 .1 .0)))
     (now (s .1 .1 .1 .1 .1 .1 .0)) (now (s .1 .1 .1 .1 .1 .1 .1 .0))
 

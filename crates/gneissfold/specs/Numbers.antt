@@ -1,7 +1,8 @@
 -- What the exported calls answer: the answers of `rules`, with the outcome as the paper's number (document 01, Outcomes) and the count or length that
--- goes with it.
+-- goes with it, and a reason as its number and its octet (document 02, request 6).
 use Rattle.words.specs.Basics.{List, [], _∷_, ℕ}
 use Rattle.words.specs.Outcomes.{numberOf, valueOf}
+use Rattle.words.specs.Reasons.{reasonNumber, reasonOctet}
 use Rattle.rules.specs.Types.{Fields, Reading}
 use Rattle.rules.specs.Frame.{Lent}
 use Rattle.rules.specs.Calls.{Answer}
@@ -9,19 +10,22 @@ use Rattle.rules.specs.Copy.{CopyAnswer}
 use Rattle.rules.specs.Host.{HostAnswer}
 use Rattle.rules.specs.Carry.{CarryAnswer}
 
--- of a message: outcome number, reply length or recipient count, and every octet lent
+-- of a message: outcome number, reply length or recipient count, reason and its octet, and every octet lent
 pub record MessageTold : Type 0 where
   pub number : ℕ
   pub count : ℕ
+  pub reason : ℕ
+  pub octet : ℕ
   pub tables : Lent
   pub reply : List ℕ
   pub list : List ℕ
 
-abbrev pub messageTold : ℕ → ℕ → Lent → List ℕ → List ℕ → MessageTold
-messageTold n c L r l = record { number = n; count = c; tables = L; reply = r; list = l }
+abbrev pub messageTold : ℕ → ℕ → ℕ → ℕ → Lent → List ℕ → List ℕ → MessageTold
+messageTold n c f o L r l = record { number = n; count = c; reason = f; octet = o; tables = L; reply = r; list = l }
 
 abbrev pub ofMessage : Answer → MessageTold
-ofMessage a = messageTold (numberOf (a .outcome)) (valueOf (a .outcome)) (a .tables) (a .reply) (a .list)
+ofMessage a =
+    messageTold (numberOf (a .outcome)) (valueOf (a .outcome)) (reasonNumber (a .reason)) (reasonOctet (a .reason)) (a .tables) (a .reply) (a .list)
 
 -- of admit and release: "they .. return 0", so the number says all
 pub record HostTold : Type 0 where

@@ -1,5 +1,5 @@
 // The calls for C and Rust (include/gneissfold.h, bindings/rust). Each hands on what is lent to it to a call of `hub`, and tells the
-// answer in numbers: the paper's outcome number is returned, a length or count goes where the caller points.
+// answer in numbers: the paper's outcome number is returned, a length or count, a reason and its octet go where the caller points.
 // No call requires anything: each answers on any octets and any lengths.
 use words::DeviceAddress;
 use words::Fields;
@@ -13,7 +13,8 @@ ghost use Rattle.rules.specs.Carry.{carryOver};
 ghost use Rattle.rules.specs.Message.{reading};
 ghost use Rattle.gneissfold.specs.Numbers.{messageTold, ofMessage, hostTold, ofHost, carryTold, ofCarry, copyTold, ofCopy, readTold, ofReading, twelve};
 
-// Handles a message. `count` gets the reply's length or the number of recipients, and 0 where the paper states none.
+// Handles a message. `count` gets the reply's length or the number of recipients, and 0 where the paper states none; `reason` and `octet` say what is wrong
+// with an Add Bind that is answered 0x02, and else 0.
 #[no_mangle]
 pub extern "C" fn gneissfold_message(
     devices: &mut [u8],
@@ -25,15 +26,21 @@ pub extern "C" fn gneissfold_message(
     reply: &mut [u8],
     list: &mut [u8],
     count: &mut usize,
+    reason: &mut u8,
+    octet: &mut u8,
 ) -> u8
-    ensures { λ r. ⌜ messageTold r (now (count .exit))
+    ensures { λ r. ⌜ messageTold r (now (count .exit)) (now (reason .exit)) (now (octet .exit))
         (lent (now (devices .exit)) (now (binds .exit)) (now (groups .exit)) (now (members .exit)) (now (sessions .exit)))
         (now (reply .exit)) (now (list .exit))
         ≡ ofMessage (message (lent (now (devices .entry)) (now (binds .entry)) (now (groups .entry)) (now (members .entry)) (now (sessions .entry)))
         (now (msg .entry)) (now (reply .entry)) (now (list .entry))) ⌝ }
 {
-    let outcome = hub::message(devices, binds, groups, members, sessions, msg, reply, list);
+    let told = hub::message(devices, binds, groups, members, sessions, msg, reply, list);
+    let outcome = told.outcome;
+    let fault = told.reason;
     *count = outcome.value();
+    *reason = fault.number();
+    *octet = fault.octet();
     outcome.number()
 }
 
