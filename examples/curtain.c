@@ -27,8 +27,9 @@ static uint8_t admit(uint16_t address, uint8_t rights)
 
 static uint8_t handle(const uint8_t *message, size_t length, size_t *count)
 {
-    return gneissfold_message(devices, sizeof devices, binds, sizeof binds, groups, sizeof groups, members, sizeof members,
-                              sessions, sizeof sessions, message, length, reply, sizeof reply, list, sizeof list, count);
+    uint8_t reason, octet;
+    return gneissfold_message(devices, sizeof devices, binds, sizeof binds, groups, sizeof groups, members, sizeof members, sessions,
+                              sizeof sessions, message, length, reply, sizeof reply, list, sizeof list, count, &reason, &octet);
 }
 
 int main(void)

@@ -53,11 +53,11 @@ static int command(uint16_t from, uint8_t uid, uint8_t member, const uint8_t *pa
     uint8_t message[GNEISSFOLD_LONGEST] = {
         (uint8_t)(from >> 8), (uint8_t)from, 0x00, 0x00, 0x00, 0x00, 0x00, 0x00, 0x07, 0x02, 0x80, uid, member, 0x00, length};
     size_t count;
-    uint8_t outcome;
+    uint8_t outcome, reason, octet;
     memcpy(message + GNEISSFOLD_HEADER_LENGTH, payload, length);
     outcome = gneissfold_message(devices, sizeof devices, binds, sizeof binds, groups, sizeof groups, members, sizeof members,
                                  sessions, sizeof sessions, message, GNEISSFOLD_HEADER_LENGTH + length, reply, sizeof reply,
-                                 list, sizeof list, &count);
+                                 list, sizeof list, &count, &reason, &octet);
     if (outcome != GNEISSFOLD_DONE) {
         printf("refused: outcome %d\n", outcome);
         exit(1);

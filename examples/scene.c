@@ -21,8 +21,9 @@ static uint16_t motor_of(int room) { return (uint16_t)(0x0200 + room); }
 
 static uint8_t handle(const uint8_t *message, size_t length, size_t *count)
 {
-    return gneissfold_message(devices, sizeof devices, binds, sizeof binds, groups, sizeof groups, members, sizeof members,
-                              sessions, sizeof sessions, message, length, reply, sizeof reply, list, sizeof list, count);
+    uint8_t reason, octet;
+    return gneissfold_message(devices, sizeof devices, binds, sizeof binds, groups, sizeof groups, members, sizeof members, sessions,
+                              sizeof sessions, message, length, reply, sizeof reply, list, sizeof list, count, &reason, &octet);
 }
 
 /* Admits a device with unit 0 and one more. */

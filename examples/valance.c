@@ -1,5 +1,5 @@
 /* A valance with three motors, units 1, 2 and 9, comes into a house that has devices of the old form: these are carried over, the valance is
-   admitted, and the switch that was there before is bound to its third motor. */
+   admitted, and the switch that was there before is bound to its third motor. A bind to a unit that it has not is refused, and the reason told. */
 #include <stdio.h>
 #include <string.h>
 
@@ -20,6 +20,9 @@ static uint8_t devices[GNEISSFOLD_DEVICES_LENGTH];
 static uint8_t reply[GNEISSFOLD_LONGEST];
 static uint8_t list[GNEISSFOLD_LIST_LENGTH];
 
+/* What is wrong with a bind, and which octet of it. */
+static uint8_t reason, octet;
+
 static void put(uint8_t *units, uint8_t unit)
 {
     units[unit / 8] |= 1 << unit % 8;
@@ -33,8 +36,8 @@ static uint8_t admit(const uint8_t *units)
 
 static uint8_t handle(const uint8_t *message, size_t length, size_t *count)
 {
-    return gneissfold_message(devices, sizeof devices, binds, sizeof binds, groups, sizeof groups, members, sizeof members,
-                              sessions, sizeof sessions, message, length, reply, sizeof reply, list, sizeof list, count);
+    return gneissfold_message(devices, sizeof devices, binds, sizeof binds, groups, sizeof groups, members, sizeof members, sessions,
+                              sizeof sessions, message, length, reply, sizeof reply, list, sizeof list, count, &reason, &octet);
 }
 
 /* From 3:01 to D'0:U'0, Bind Management (server, UID 0x0002), Add Bind: 3:01, server, UID 0x0200, to this unit of the valance. */
@@ -46,6 +49,8 @@ static void bind_to(uint8_t unit)
     size_t count;
     uint8_t outcome = handle(add_bind, sizeof add_bind, &count);
     printf("bind the switch to unit %d: outcome %d, code 0x%02X\n", unit, outcome, reply[GNEISSFOLD_HEADER_LENGTH]);
+    if (reason != GNEISSFOLD_REASON_NONE)
+        printf("octet %d of the bind: %s\n", octet, gneissfold_reason_text(reason));
 }
 
 int main(void)

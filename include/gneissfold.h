@@ -9,7 +9,7 @@
  * What the caller owes, and no call can test:
  *   - no pointer is NULL, also where the length that follows it is 0;
  *   - each pointer stands before as many elements as the length that follows it says; where no length follows, `units` before 32 octets,
- *     `fields` before 12 numbers, `count` and `length` before one;
+ *     `fields` before 12 numbers, `count` and `length` before one, `reason` and `octet` before one octet;
  *   - what a call may write overlaps nothing else that is lent to the same call.
  * Nothing else is owed: every call answers on any octets and any lengths, and its whole answer is proved (crates/gneissfold/src/lib.rt).
  *
@@ -57,6 +57,53 @@ enum gneissfold_code {
     GNEISSFOLD_CODE_NOT_ENOUGH_RESOURCES = 0xFE,
     GNEISSFOLD_CODE_UNKNOWN_REASON = 0xFF         /* an end without a session */
 };
+
+/*
+ * Reasons: what is wrong with the bind of an Add Bind that is answered 0x02; the first that holds is given. Behind each stands its octet: the
+ * first octet concerned of the payload, counted from 1, and 0 for the length. Octet o of the payload is octet 15 + o of the message. A source
+ * of any device or any unit is asked nothing.
+ */
+enum gneissfold_reason {
+    GNEISSFOLD_REASON_NONE = 0,                /* octet 0: any other answer, command or outcome */
+    GNEISSFOLD_REASON_LENGTH = 1,              /* octet 0: payload length not 8 */
+    GNEISSFOLD_REASON_SOURCE_DEVICE = 2,       /* octet 1: source device written out that does not exist */
+    GNEISSFOLD_REASON_SOURCE_UNIT = 3,         /* octet 3: source unit written out that the source device, written out, has not */
+    GNEISSFOLD_REASON_UNIT_FF = 4,             /* octet 8: destination unit 0xFF, behind a group too */
+    GNEISSFOLD_REASON_DESTINATION_DEVICE = 5,  /* octet 6: individual destination whose device does not exist */
+    GNEISSFOLD_REASON_DESTINATION_UNIT = 6,    /* octet 8: individual destination whose device has not that unit; D'0000 has unit 0 only */
+    GNEISSFOLD_REASON_GROUP = 7,               /* octet 6: group does not exist */
+    GNEISSFOLD_REASON_ITSELF = 8,              /* octet 6: individual destination is the source unit itself */
+    GNEISSFOLD_REASON_PRESENT = 9              /* octet 1: same bind present */
+};
+
+/* A reason in words, for the fitter. */
+static inline const char *gneissfold_reason_text(uint8_t reason)
+{
+    switch (reason) {
+    case GNEISSFOLD_REASON_NONE:
+        return "nothing is wrong with the bind";
+    case GNEISSFOLD_REASON_LENGTH:
+        return "the bind is not eight octets long";
+    case GNEISSFOLD_REASON_SOURCE_DEVICE:
+        return "the source device is not admitted";
+    case GNEISSFOLD_REASON_SOURCE_UNIT:
+        return "the source unit is not one of that device's";
+    case GNEISSFOLD_REASON_UNIT_FF:
+        return "the destination unit is 0xFF, which is no unit";
+    case GNEISSFOLD_REASON_DESTINATION_DEVICE:
+        return "the destination device is not admitted";
+    case GNEISSFOLD_REASON_DESTINATION_UNIT:
+        return "the destination unit is not one of that device's";
+    case GNEISSFOLD_REASON_GROUP:
+        return "there is no such group";
+    case GNEISSFOLD_REASON_ITSELF:
+        return "the unit is bound to itself";
+    case GNEISSFOLD_REASON_PRESENT:
+        return "this bind is there already";
+    default:
+        return "no reason of this version";
+    }
+}
 
 /* Tables: records of one size, no header. A free record is all GNEISSFOLD_FREE, so an empty table is filled with it. */
 #define GNEISSFOLD_FREE 0xFF
@@ -192,14 +239,15 @@ enum gneissfold_field {
  * Handles a message: serves a command to D'0:U'0, or finds the recipients of any other message.
  *
  * Lent until the call returns: the five tables, `message` to be read, `reply` (at least GNEISSFOLD_LONGEST octets), `list` (at least
- * 3 * max(1, bind records + member records) octets, free records counted) and `count`.
+ * 3 * max(1, bind records + member records) octets, free records counted), `count`, `reason` and `octet`.
  *
  *   0   the reply is written, *count is its length, and the tables are as the command leaves them. Its code is reply[15].
  *   1   the list has *count recipients, 3 octets each, by rising device and then unit, each once; reply and tables stay
  *   2   valid, nobody to send to; nothing is written
  *   17, 16, 10, 11, 12, 13, 15, then 18 for D'0:U'0 or 14 for the rest, in this order: refused; nothing is written
  *
- * *count is 0 unless stated, and always written.
+ * *count is 0 unless stated, and always written. *reason and *octet are always written too: an enum gneissfold_reason and its octet for an Add
+ * Bind answered 0x02, and else 0 and 0.
  */
 uint8_t gneissfold_message(
     uint8_t *devices, size_t devices_length,
@@ -210,7 +258,7 @@ uint8_t gneissfold_message(
     const uint8_t *message, size_t message_length,
     uint8_t *reply, size_t reply_length,
     uint8_t *list, size_t list_length,
-    size_t *count);
+    size_t *count, uint8_t *reason, uint8_t *octet);
 
 /*
  * Admits a device, with its rights (1: its commands are served, 0: they are refused with code 0x01, but for Get Group Info, reads and the

@@ -33,6 +33,7 @@ static const uint8_t *message;
 static size_t message_length;
 static uint8_t outcome;
 static size_t count;
+static uint8_t reason, octet;
 
 /* Devices 1 to 63 with units 0 to 3, of which the first has a session; binds of its unit 0; groups 1 to 15; members of the first. */
 static void fill(void)
@@ -67,7 +68,7 @@ static void call_message(void)
 {
     outcome = gneissfold_message(tables.devices, sizeof tables.devices, tables.binds, sizeof tables.binds, tables.groups, sizeof tables.groups,
                                  tables.members, sizeof tables.members, tables.sessions, sizeof tables.sessions, message, message_length,
-                                 reply, sizeof reply, list, sizeof list, &count);
+                                 reply, sizeof reply, list, sizeof list, &count, &reason, &octet);
 }
 
 static void call_admit(void)
