@@ -42,7 +42,7 @@ impl Form {
 }
 
 /// "Octet 1's top bit .. is ignored in a command and stored as 0" ("Tables").
-fn bind_of(payload: &[u8]) -> [u8; BIND] {
+pub fn bind_of(payload: &[u8]) -> [u8; BIND] {
     let mut bind = [0; BIND];
     bind.copy_from_slice(payload);
     bind[0] &= 0x7F;

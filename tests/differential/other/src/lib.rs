@@ -1,9 +1,9 @@
 //! A second, independent reading of the requirements paper, for tests only.
 //!
 //! It is written straight from the paper and favours obviousness. Section
-//! names in the comments are the paper's; "CR 1", "CR 2" and "CR 4" are the
-//! change requests of those numbers. Octet numbers in the comments count from 1,
-//! as in the paper; indices in the code count from 0.
+//! names in the comments are the paper's; "CR 1", "CR 2", "CR 4" and "CR 6" are
+//! the change requests of those numbers. Octet numbers in the comments count from
+//! 1, as in the paper; indices in the code count from 0.
 
 mod binds;
 mod carry_over;
@@ -12,6 +12,7 @@ mod commands;
 mod groups;
 mod header;
 mod links;
+mod reason;
 mod recipients;
 mod sessions;
 mod tables;
@@ -20,7 +21,10 @@ mod unit_set;
 pub use carry_over::carry_over;
 pub use header::{copy, read};
 pub use links::links;
+pub use reason::reasons;
 
+use codes::INVALID_ARGUMENT;
+use commands::Command;
 use header::Header;
 use tables::{address_in_range, device_of, free_where, word, Tables};
 use unit_set::UnitSet;
@@ -58,7 +62,8 @@ pub(crate) const BIND_DEVICE: u16 = 0x7FFF;
 pub(crate) const NO_UNIT: u8 = 0xFF;
 
 /// Serves a command or finds the recipients of a message. `count` becomes the
-/// reply's length (outcome 0), the number of recipients (1) or 0.
+/// reply's length (outcome 0), the number of recipients (1) or 0; `reason` and
+/// `octet` say what is wrong with an Add Bind that gets 0x02, and else become 0.
 #[allow(clippy::too_many_arguments)]
 pub fn message(
     devices: &mut [u8],
@@ -70,8 +75,11 @@ pub fn message(
     reply: &mut [u8],
     list: &mut [u8],
     count: &mut usize,
+    reason: &mut u8,
+    octet: &mut u8,
 ) -> u8 {
     *count = 0;
+    (*reason, *octet) = reason::NONE;
     // "Order for a message: 17, 16, 10, 11, 12, 13, 15, then 18 or 14".
     if reply.len() < LONGEST || list.len() < least_list(binds, members) {
         return outcome::ROOM;
@@ -100,7 +108,16 @@ pub fn message(
         return match commands::named_by(&header) {
             None => outcome::NO_COMMAND,
             Some(command) => {
-                *count = commands::serve(command, &header, &msg[HEADER..], tables, reply);
+                let payload = &msg[HEADER..];
+                // Asked of the tables as they are lent, and given with 0x02 alone.
+                let first = match command {
+                    Command::AddBind => reason::first(payload, &tables),
+                    _ => reason::NONE,
+                };
+                *count = commands::serve(command, &header, payload, tables, reply);
+                if reply[HEADER] == INVALID_ARGUMENT {
+                    (*reason, *octet) = first;
+                }
                 outcome::DONE
             }
         };

@@ -29,6 +29,8 @@ pub fn links(input: &[u8]) -> String {
     let mut reply = [0; LONGEST];
     let mut list = [0; 3 * (MOST_BINDS + MOST_MEMBERS)];
     let mut count = 0;
+    // Neither is printed.
+    let (mut reason, mut octet) = (0, 0);
     let result = message(
         devices,
         binds,
@@ -39,6 +41,8 @@ pub fn links(input: &[u8]) -> String {
         &mut reply,
         &mut list,
         &mut count,
+        &mut reason,
+        &mut octet,
     );
     match result {
         outcome::DONE => format!("outcome 0 count 0\n{}\n", hexadecimal(&reply[..count])),

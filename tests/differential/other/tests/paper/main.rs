@@ -3,6 +3,7 @@
 mod carry_over;
 mod commands;
 mod outcomes;
+mod reason;
 mod rows;
 mod scene_switch;
 mod sessions;

@@ -16,8 +16,9 @@ fn the_order_of_outcomes() {
         sessions,
     } = &mut world;
     let mut call = |reply: usize, list: usize| {
-        let (mut reply, mut list, mut count) = (vec![0; reply], vec![0; list], 1);
-        message(
+        let (mut reply, mut list) = (vec![0; reply], vec![0; list]);
+        let (mut count, mut reason, mut octet) = (1, 1, 1);
+        let outcome = message(
             devices,
             binds,
             groups,
@@ -27,7 +28,11 @@ fn the_order_of_outcomes() {
             &mut reply,
             &mut list,
             &mut count,
-        )
+            &mut reason,
+            &mut octet,
+        );
+        assert_eq!((count, reason, octet), (0, 0, 0));
+        outcome
     };
     // One bind record and three member records, divided down.
     assert_eq!(call(500, 11), 17);

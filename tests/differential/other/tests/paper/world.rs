@@ -63,9 +63,14 @@ impl World {
     }
 
     pub fn send(&mut self, msg: &[u8]) -> Answer {
+        self.told(msg).0
+    }
+
+    /// The answer, and reason with octet.
+    pub fn told(&mut self, msg: &[u8]) -> (Answer, (u8, u8)) {
         let mut reply = [0xA5; 500];
         let mut list = [0x5A; 576];
-        let mut count = 77;
+        let (mut count, mut reason, mut octet) = (77, 77, 77);
         let before = self.clone();
         let outcome = message(
             &mut self.devices,
@@ -77,7 +82,10 @@ impl World {
             &mut reply,
             &mut list,
             &mut count,
+            &mut reason,
+            &mut octet,
         );
+        let why = (reason, octet);
         let (in_reply, in_list) = match outcome {
             0 => (count, 0),
             1 => (0, 3 * count),
@@ -91,9 +99,12 @@ impl World {
         if outcome != 0 || reply[15] != 0 {
             assert_eq!(*self, before);
         }
+        // "With any other code or outcome reason and octet are 0" ("CR 6").
+        let wrong = outcome == 0 && msg[11..13] == [BIND, 1] && reply[15] == 2;
+        assert_eq!(why != (0, 0), wrong);
         match outcome {
-            0 => Answer(0, reply[..count].to_vec()),
-            _ => Answer(outcome, list[..in_list].to_vec()),
+            0 => (Answer(0, reply[..count].to_vec()), why),
+            _ => (Answer(outcome, list[..in_list].to_vec()), why),
         }
     }
 

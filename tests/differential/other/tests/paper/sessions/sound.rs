@@ -97,7 +97,8 @@ fn the_order() {
         members,
         sessions,
     } = &mut world;
-    let (mut reply, mut list, mut count) = ([0; 499], [0; 576], 1);
+    let (mut reply, mut list) = ([0; 499], [0; 576]);
+    let (mut count, mut reason, mut octet) = (1, 1, 1);
     let outcome = other_reading::message(
         devices,
         binds,
@@ -108,6 +109,8 @@ fn the_order() {
         &mut reply,
         &mut list,
         &mut count,
+        &mut reason,
+        &mut octet,
     );
-    assert_eq!((outcome, count), (17, 0));
+    assert_eq!((outcome, count, reason, octet), (17, 0, 0, 0));
 }
