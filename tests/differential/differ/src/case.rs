@@ -56,12 +56,14 @@ pub struct Case {
     pub call: Call,
 }
 
-/// What a call leaves: the outcome, the count or length, and every lent octet,
-/// also those that the call may not change.
+/// What a call leaves: the outcome, the count or length, reason and octet, and
+/// every lent octet, also those that the call may not change.
 #[derive(PartialEq)]
 pub struct Answer {
     pub outcome: u8,
     pub count: usize,
+    pub reason: u8,
+    pub octet: u8,
     pub world: World,
     pub call: Call,
 }
@@ -74,15 +76,16 @@ impl Answer {
 }
 
 /// A case's call as `$side` answers it. The part and the other reading have
-/// the same six calls. A call without a count or length has 0 here; that the
-/// part writes the others shows in `part.c`, which has a stale one for it.
+/// the same six calls. A call without a count or length, or without reason and
+/// octet, has 0 here; that the part writes the others shows in `part.c`, which
+/// has stale ones for it.
 macro_rules! answer {
     ($side:ident, $case:expr) => {{
         let Case {
             mut world,
             mut call,
         } = $case.clone();
-        let mut count = 0;
+        let (mut count, mut reason, mut octet) = (0, 0, 0);
         let World {
             devices,
             binds,
@@ -92,7 +95,17 @@ macro_rules! answer {
         } = &mut world;
         let outcome = match &mut call {
             Call::Message { msg, reply, list } => $side::message(
-                devices, binds, groups, members, sessions, msg, reply, list, &mut count,
+                devices,
+                binds,
+                groups,
+                members,
+                sessions,
+                msg,
+                reply,
+                list,
+                &mut count,
+                &mut reason,
+                &mut octet,
             ),
             &mut Call::Admit {
                 address,
@@ -116,6 +129,8 @@ macro_rules! answer {
         Answer {
             outcome,
             count,
+            reason,
+            octet,
             world,
             call,
         }

@@ -13,6 +13,7 @@ mod sound;
 mod units;
 mod unsound;
 mod view;
+mod wrong;
 
 pub use any::request_for;
 pub use commands::COMMANDS;

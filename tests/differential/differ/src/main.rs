@@ -7,7 +7,7 @@
 //!
 //! --history  judges the runs by the history alone, not by the other reading
 //! --each     prints every case before it is made, to standard error
-//! --counts   prints how often each outcome and code came up
+//! --counts   prints how often each outcome, code and reason came up
 
 mod case;
 mod generate;
@@ -32,8 +32,9 @@ struct Options {
     counts: bool,
 }
 
-/// From here on every outcome and code must have come up, and all that binds with
-/// special values and reading them back bring about, or the test itself is at fault.
+/// From here on every outcome and code must have come up, every reason, and all that
+/// binds with special values and reading them back bring about, or the test itself is
+/// at fault.
 /// Of so many calls in runs the latter alone is asked: there are outcomes that no
 /// run meets.
 const ENOUGH_CALLS: usize = 100_000;

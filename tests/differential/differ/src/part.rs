@@ -61,8 +61,18 @@ impl Lent<'_> {
     }
 }
 
-/// One call: its answer is the outcome, and the count or length.
-fn call(which: u8, number: u16, octet: u8, lent: &mut [Lent]) -> (u8, usize) {
+/// What is told beside the lent slices: the outcome, the count or length, reason and octet. What a call has not is stale.
+struct Told {
+    outcome: u8,
+    count: usize,
+    reason: u8,
+    octet: u8,
+}
+
+/// Octets of it.
+const TOLD: usize = 11;
+
+fn call(which: u8, number: u16, octet: u8, lent: &mut [Lent]) -> Told {
     let mut request = vec![which];
     request.extend_from_slice(&number.to_le_bytes());
     request.extend_from_slice(&[octet, lent.len() as u8]);
@@ -70,7 +80,7 @@ fn call(which: u8, number: u16, octet: u8, lent: &mut [Lent]) -> (u8, usize) {
         request.extend_from_slice(&(slice.octets().len() as u32).to_le_bytes());
         request.extend_from_slice(slice.octets());
     }
-    let mut answer = vec![0; 9 + lent.iter().map(|s| s.octets().len()).sum::<usize>()];
+    let mut answer = vec![0; TOLD + lent.iter().map(|s| s.octets().len()).sum::<usize>()];
     PART.with(|part| {
         let mut part = part.borrow_mut();
         part.requests
@@ -85,13 +95,18 @@ fn call(which: u8, number: u16, octet: u8, lent: &mut [Lent]) -> (u8, usize) {
     });
     let mut count = [0; 8];
     count.copy_from_slice(&answer[1..9]);
-    let mut at = 9;
+    let mut at = TOLD;
     for slice in lent.iter_mut() {
         let end = at + slice.octets().len();
         slice.come_back(&answer[at..end]);
         at = end;
     }
-    (answer[0], u64::from_le_bytes(count) as usize)
+    Told {
+        outcome: answer[0],
+        count: u64::from_le_bytes(count) as usize,
+        reason: answer[9],
+        octet: answer[10],
+    }
 }
 
 #[allow(clippy::too_many_arguments)]
@@ -105,6 +120,8 @@ pub fn message(
     reply: &mut [u8],
     list: &mut [u8],
     count: &mut usize,
+    reason: &mut u8,
+    octet: &mut u8,
 ) -> u8 {
     let lent = &mut [
         Lent::Written(devices),
@@ -116,9 +133,9 @@ pub fn message(
         Lent::Written(reply),
         Lent::Written(list),
     ];
-    let (outcome, n) = call(1, 0, 0, lent);
-    *count = n;
-    outcome
+    let told = call(1, 0, 0, lent);
+    (*count, *reason, *octet) = (told.count, told.reason, told.octet);
+    told.outcome
 }
 
 #[allow(clippy::too_many_arguments)]
@@ -140,7 +157,7 @@ pub fn admit(
         Lent::Kept(sessions),
         Lent::Kept(units),
     ];
-    call(2, address, rights, lent).0
+    call(2, address, rights, lent).outcome
 }
 
 pub fn release(
@@ -158,20 +175,20 @@ pub fn release(
         Lent::Written(members),
         Lent::Written(sessions),
     ];
-    call(3, address, 0, lent).0
+    call(3, address, 0, lent).outcome
 }
 
 pub fn copy(msg: &[u8], room: &mut [u8], device: u16, unit: u8, length: &mut usize) -> u8 {
     let lent = &mut [Lent::Kept(msg), Lent::Written(room)];
-    let (outcome, n) = call(4, device, unit, lent);
-    *length = n;
-    outcome
+    let told = call(4, device, unit, lent);
+    *length = told.count;
+    told.outcome
 }
 
 pub fn read(msg: &[u8], fields: &mut [u16; 12]) -> u8 {
     let mut octets: Vec<u8> = fields.iter().flat_map(|f| f.to_le_bytes()).collect();
     let lent = &mut [Lent::Kept(msg), Lent::Written(&mut octets)];
-    let (outcome, _) = call(5, 0, 0, lent);
+    let outcome = call(5, 0, 0, lent).outcome;
     for (field, two) in fields.iter_mut().zip(octets.chunks_exact(2)) {
         *field = u16::from_le_bytes([two[0], two[1]]);
     }
@@ -179,5 +196,5 @@ pub fn read(msg: &[u8], fields: &mut [u16; 12]) -> u8 {
 }
 
 pub fn carry_over(old: &[u8], new: &mut [u8]) -> u8 {
-    call(6, 0, 0, &mut [Lent::Kept(old), Lent::Written(new)]).0
+    call(6, 0, 0, &mut [Lent::Kept(old), Lent::Written(new)]).outcome
 }

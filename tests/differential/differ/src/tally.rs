@@ -2,6 +2,7 @@
 
 mod any;
 mod reading;
+mod reason;
 mod unsound;
 
 use crate::case::{Answer, Call, Case};
@@ -16,6 +17,7 @@ pub struct Tally {
     outcomes: BTreeMap<(&'static str, u8), usize>,
     codes: BTreeMap<((u8, u8), u8), usize>,
     any: BTreeMap<String, usize>,
+    reason: BTreeMap<String, usize>,
     reading: BTreeMap<String, usize>,
 }
 
@@ -61,6 +63,9 @@ impl Tally {
         for met in any::met(answer) {
             *self.any.entry(met).or_default() += 1;
         }
+        for met in reason::met(case, answer) {
+            *self.reason.entry(met).or_default() += 1;
+        }
         let unsound = unsound::met(case, answer);
         for met in reading::met(case, answer).into_iter().chain(unsound) {
             *self.reading.entry(met).or_default() += 1;
@@ -74,7 +79,7 @@ impl Tally {
         for (((uid, member), code), times) in &self.codes {
             println!("  command {uid:02X}.{member:02X} code {code:02X}: {times}");
         }
-        for (met, times) in self.any.iter().chain(&self.reading) {
+        for (met, times) in self.any.iter().chain(&self.reason).chain(&self.reading) {
             println!("  {met}: {times}");
         }
     }
@@ -107,10 +112,13 @@ impl Tally {
         missing
     }
 
-    /// What never came up of the special values and of reading binds back, which runs meet as single calls do.
+    /// What never came up of the special values, of the reasons and of reading binds back, which runs meet as single calls do.
     pub fn missing_of_requests(&self) -> Vec<String> {
         let mut missing = any::all();
         missing.retain(|name| !self.any.contains_key(name));
+        let mut of_reason = reason::all();
+        of_reason.retain(|name| !self.reason.contains_key(name));
+        missing.extend(of_reason);
         let mut of_reading = reading::all();
         of_reading.retain(|name| !self.reading.contains_key(name));
         missing.extend(of_reading);

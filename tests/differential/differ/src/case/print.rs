@@ -64,7 +64,11 @@ impl fmt::Display for Case {
 
 impl fmt::Display for Answer {
     fn fmt(&self, to: &mut fmt::Formatter) -> fmt::Result {
-        writeln!(to, "  outcome {} count {}", self.outcome, self.count)?;
+        writeln!(
+            to,
+            "  outcome {} count {} reason {} octet {}",
+            self.outcome, self.count, self.reason, self.octet
+        )?;
         if self.outside() {
             writeln!(to, "  octets outside a lent slice were changed")?;
         }

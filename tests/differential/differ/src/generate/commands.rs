@@ -45,6 +45,7 @@ impl View {
             bind = self.said_otherwise(rng, bind);
         }
         let mut payload = match command {
+            (2, 1) if rng.percent(10) => self.wrong_bind(rng).to_vec(),
             (2, 1) => self.bind(rng).to_vec(),
             (2, 2) => bind.to_vec(),
             (2, 3 | 10) => bind[..2].to_vec(),

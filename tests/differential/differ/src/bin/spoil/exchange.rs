@@ -8,8 +8,9 @@ pub const READ: u8 = 5;
 const CARRY_OVER: u8 = 6;
 
 /// Places among the slices.
-const DEVICES: usize = 0;
+pub const DEVICES: usize = 0;
 pub const BINDS: usize = 1;
+pub const GROUPS: usize = 2;
 pub const MEMBERS: usize = 3;
 pub const SESSIONS: usize = 4;
 pub const SENT: usize = 5;
@@ -30,6 +31,9 @@ pub struct Exchange {
     pub before: Vec<Vec<u8>>,
     pub outcome: u8,
     pub count: u64,
+    /// Reason and octet; and those of the message before, as the part gave them.
+    pub why: (u8, u8),
+    pub last: (u8, u8),
     pub after: Vec<Vec<u8>>,
 }
 

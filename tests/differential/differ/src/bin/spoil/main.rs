@@ -11,10 +11,11 @@ mod exchange;
 mod faults;
 mod reading;
 mod reads;
+mod reason;
 mod session_tables;
 mod sessions;
 
-use exchange::Exchange;
+use exchange::{Exchange, MESSAGE};
 use faults::{Fault, Spoil};
 use std::io::{self, Read, Write};
 use std::process::{Command, ExitCode, Stdio};
@@ -69,24 +70,31 @@ fn serve(spoil: Spoil, part: &[String]) -> io::Result<()> {
     let mut answers = part.stdout.take().expect("a pipe");
     let mut input = io::stdin().lock();
     let mut output = io::stdout().lock();
+    let mut last = (0, 0);
     while let Some(request) = request(&mut input)? {
         requests.write_all(&request.octets)?;
         requests.flush()?;
-        let mut told = [0; 9];
+        let mut told = [0; 11];
         answers.read_exact(&mut told)?;
         let lengths: Vec<usize> = request.slices.iter().map(Vec::len).collect();
         let after = slices(&mut answers, &lengths)?;
-        let count = u64::from_le_bytes(told[1..].try_into().expect("eight octets"));
+        let count = u64::from_le_bytes(told[1..9].try_into().expect("eight octets"));
         let mut exchange = Exchange {
             call: request.call,
             before: request.slices,
             outcome: told[0],
             count,
+            why: (told[9], told[10]),
+            last,
             after,
         };
+        if exchange.call == MESSAGE {
+            last = exchange.why;
+        }
         spoil(&mut exchange);
         let mut answer = vec![exchange.outcome];
         answer.extend_from_slice(&exchange.count.to_le_bytes());
+        answer.extend_from_slice(&[exchange.why.0, exchange.why.1]);
         answer.extend(exchange.after.concat());
         output.write_all(&answer)?;
         output.flush()?;
@@ -98,6 +106,7 @@ fn faults() -> impl Iterator<Item = Fault> {
     [
         faults::FAULTS,
         any::FAULTS,
+        reason::FAULTS,
         sessions::FAULTS,
         closed::FAULTS,
         session_tables::FAULTS,
