@@ -22,12 +22,18 @@ fn main() {
 
     println!("admit the switch: {:?}", tables.admit(SWITCH, 1, units));
     println!("admit the motor: {:?}", tables.admit(MOTOR, 0, units));
-    let (outcome, length) = tables.message(&add_bind, &mut reply, &mut list);
-    println!(
-        "bind the switch to the motor: {outcome:?}, reply of {length} octets, code 0x{:02X}",
-        reply[HEADER_LENGTH]
-    );
-    let (outcome, count) = tables.message(&command, &mut reply, &mut list);
+    // Once, and once more, which is refused.
+    for _ in 0..2 {
+        let (outcome, length, reason) = tables.message(&add_bind, &mut reply, &mut list);
+        println!(
+            "bind the switch to the motor: {outcome:?}, reply of {length} octets, code 0x{:02X}",
+            reply[HEADER_LENGTH]
+        );
+        if let Some(reason) = reason {
+            println!("octet {} of the bind: {reason}", reason.octet());
+        }
+    }
+    let (outcome, count, _) = tables.message(&command, &mut reply, &mut list);
     println!("the switch is pressed: {outcome:?}, recipients {count}");
     for (device, unit) in recipients(&list, count) {
         let length = copy(&command, &mut room, device, unit).expect("a recipient can be copied to");

@@ -3,6 +3,7 @@
 use crate::lengths::RECIPIENT_SIZE;
 use crate::outcome::{told, Outcome};
 use crate::raw;
+use crate::reason::{self, Reason};
 use crate::units::Units;
 
 /// Handles a message: serves a command to D'0:U'0, or lists the recipients of any other.
@@ -10,6 +11,8 @@ use crate::units::Units;
 /// The number is the reply's length at [`Outcome::Done`], the number of recipients in `list` (see [`recipients`]) at
 /// [`Outcome::Forwarded`], and else 0. `reply` needs [`LONGEST`](crate::LONGEST) octets, and `list` 3 × max(1, bind records + member records),
 /// free ones counted; where they are shorter the outcome is [`Outcome::NoRoom`]. At any outcome but the first two nothing is written.
+///
+/// The reason is there for an Add Bind that is answered [`INVALID_ARGUMENT`](crate::code::INVALID_ARGUMENT), and for nothing else.
 #[allow(clippy::too_many_arguments)]
 pub fn message(
     devices: &mut [u8],
@@ -20,8 +23,8 @@ pub fn message(
     message: &[u8],
     reply: &mut [u8],
     list: &mut [u8],
-) -> (Outcome, usize) {
-    let mut count = 0;
+) -> (Outcome, usize, Option<Reason>) {
+    let (mut count, mut reason, mut octet) = (0, 0, 0);
     // SAFETY: each pointer and length is a slice's, lent until the call returns, and no two slices to be written overlap.
     let number = unsafe {
         raw::gneissfold_message(
@@ -42,9 +45,11 @@ pub fn message(
             list.as_mut_ptr(),
             list.len(),
             &mut count,
+            &mut reason,
+            &mut octet,
         )
     };
-    (told(number), count)
+    (told(number), count, reason::told(reason, octet))
 }
 
 /// The recipients that [`message`] listed, device and unit: the first `count` of the list.

@@ -3,6 +3,7 @@
 //! The library has no state. The caller keeps the five tables, and lends them to each call; [`Tables`] keeps them at full size. A site whose
 //! device records have 4 octets begins with [`carry_over`] or [`Tables::carried_over`].
 //! A fitter's device reads the binds back and compares them with the sheet by [`Tables::read_binds`] and [`compare`]; [`reading`] has the parts.
+//! Where an Add Bind is answered 0x02, [`message`] also gives a [`Reason`], which says what is wrong with the bind, and at which octet.
 //! Every call answers on any octets and any lengths, and its whole answer is proved (`crates/gneissfold` of the repository).
 //! What C leaves to the caller, that no pointer is null and that nothing lent to be written overlaps, Rust's references say.
 #![no_std]
@@ -18,6 +19,7 @@ mod lengths;
 mod outcome;
 mod raw;
 pub mod reading;
+mod reason;
 mod tables;
 mod units;
 
@@ -33,5 +35,6 @@ pub use lengths::{
 };
 pub use outcome::Outcome;
 pub use reading::ReadError;
+pub use reason::Reason;
 pub use tables::{Tables, FREE};
 pub use units::Units;

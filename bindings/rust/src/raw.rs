@@ -19,6 +19,8 @@ extern "C" {
         list: *mut u8,
         list_length: usize,
         count: *mut usize,
+        reason: *mut u8,
+        octet: *mut u8,
     ) -> u8;
     pub fn gneissfold_admit(
         devices: *mut u8,

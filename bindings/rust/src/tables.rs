@@ -8,6 +8,7 @@ use crate::lengths::{
 };
 use crate::outcome::Outcome;
 use crate::reading::{read_all, ReadError};
+use crate::reason::Reason;
 use crate::units::Units;
 
 /// The octet that a free record is made of.
@@ -59,12 +60,27 @@ impl Tables {
     }
 
     /// [`message`](crate::message) on these tables.
+    ///
+    /// ```
+    /// use gneissfold::{Outcome, Reason, Tables, Units, LIST_LENGTH, LONGEST};
+    ///
+    /// let mut tables = Tables::new();
+    /// assert_eq!(tables.admit(3, 1, Units::up_to(1)), Outcome::Done);
+    /// // Add Bind: 3:01, server interface 0x0200, to D'4:U'02, which nobody admitted.
+    /// let add_bind = [
+    ///     0, 3, 1, 0, 0, 0, 0, 0, 7, 1, 0x80, 2, 1, 0, 8, 0, 3, 1, 0x82, 0, 0, 4, 2,
+    /// ];
+    /// let (_, _, reason) = tables.message(&add_bind, &mut [0; LONGEST], &mut [0; LIST_LENGTH]);
+    /// let reason = reason.unwrap();
+    /// assert_eq!((reason, reason.octet()), (Reason::DestinationDevice, 6));
+    /// assert_eq!(reason.to_string(), "the destination device is not admitted");
+    /// ```
     pub fn message(
         &mut self,
         message: &[u8],
         reply: &mut [u8],
         list: &mut [u8],
-    ) -> (Outcome, usize) {
+    ) -> (Outcome, usize, Option<Reason>) {
         calls::message(
             &mut self.devices,
             &mut self.binds,
@@ -122,7 +138,8 @@ impl Tables {
     pub fn read_binds(&mut self, sender: (u16, u8)) -> Result<Binds, ReadError> {
         let mut list = [0; LIST_LENGTH];
         read_all(sender, |message, reply| {
-            self.message(message, reply, &mut list)
+            let (outcome, length, _) = self.message(message, reply, &mut list);
+            (outcome, length)
         })
     }
 }

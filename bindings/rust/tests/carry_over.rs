@@ -99,7 +99,7 @@ fn what_was_bound_before_is_bound_after() {
     let pressed = [0, 3, 1, 0x7F, 0xFF, 0xFF, 0, 0, 8, 1, 0x82, 0, 1, 0, 0];
     let mut list = [0; LIST_LENGTH];
     let answer = tables.message(&pressed, &mut [0; LONGEST], &mut list);
-    assert_eq!(answer, (Outcome::Forwarded, 1));
+    assert_eq!(answer, (Outcome::Forwarded, 1, None));
     assert!(recipients(&list, 1).eq([(4, 1)]));
 
     let twice = old(&[[0, 3, 1, 1], [0, 3, 0, 1]]);

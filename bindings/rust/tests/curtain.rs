@@ -20,7 +20,7 @@ fn a_switch_moves_its_motor() {
 
     assert_eq!(
         tables.message(&command, &mut reply, &mut list),
-        (Outcome::NoSource, 0)
+        (Outcome::NoSource, 0, None)
     );
     assert_eq!(tables.admit(3, 1, units), Outcome::Done);
     assert_eq!(tables.admit(4, 0, units), Outcome::Done);
@@ -33,7 +33,7 @@ fn a_switch_moves_its_motor() {
 
     assert_eq!(
         tables.message(&add_bind, &mut reply, &mut list),
-        (Outcome::Done, 16)
+        (Outcome::Done, 16, None)
     );
     assert_eq!(
         reply[..17],
@@ -61,7 +61,7 @@ fn a_switch_moves_its_motor() {
 
     assert_eq!(
         tables.message(&command, &mut reply, &mut list),
-        (Outcome::Forwarded, 1)
+        (Outcome::Forwarded, 1, None)
     );
     assert!(recipients(&list, 1).eq([(4, 1)]));
     assert_eq!(list[3], 0xAA);
@@ -90,11 +90,11 @@ fn a_switch_moves_its_motor() {
     assert_eq!(tables.release(4), Outcome::NotAdmitted);
     assert_eq!(
         tables.message(&command, &mut reply, &mut list),
-        (Outcome::Nobody, 0)
+        (Outcome::Nobody, 0, None)
     );
     assert_eq!(
         tables.message(&command, &mut reply[..499], &mut list),
-        (Outcome::NoRoom, 0)
+        (Outcome::NoRoom, 0, None)
     );
 }
 

@@ -29,7 +29,7 @@ fn house(binds: &[Bind]) -> Tables {
 
 fn sent(tables: &mut Tables, message: &[u8]) -> (Outcome, Vec<u8>) {
     let mut reply = [0; LONGEST];
-    let (outcome, length) = tables.message(message, &mut reply, &mut [0; LIST_LENGTH]);
+    let (outcome, length, _) = tables.message(message, &mut reply, &mut [0; LIST_LENGTH]);
     (outcome, reply[..length].to_vec())
 }
 

@@ -27,7 +27,7 @@ fn house() -> Tables {
 
 fn sent(tables: &mut Tables, message: &[u8]) -> (Outcome, Vec<u8>) {
     let mut reply = [0; LONGEST];
-    let (outcome, length) = tables.message(message, &mut reply, &mut [0; LIST_LENGTH]);
+    let (outcome, length, _) = tables.message(message, &mut reply, &mut [0; LIST_LENGTH]);
     (outcome, reply[..length].to_vec())
 }
 
@@ -70,7 +70,8 @@ fn read_while(
     let read = read_all(FITTER, |message, reply| {
         meanwhile(tables, members.len(), message[12]);
         members.push(message[12]);
-        tables.message(message, reply, &mut [0; LIST_LENGTH])
+        let (outcome, length, _) = tables.message(message, reply, &mut [0; LIST_LENGTH]);
+        (outcome, length)
     });
     (read, members)
 }
@@ -202,7 +203,8 @@ fn spoilt(
     let mut tables = house_of(64);
     let mut members = Vec::new();
     let read = read_all(FITTER, |message, reply| {
-        let mut answer = tables.message(message, reply, &mut [0; LIST_LENGTH]);
+        let (outcome, length, _) = tables.message(message, reply, &mut [0; LIST_LENGTH]);
+        let mut answer = (outcome, length);
         if members.len() == nth {
             spoil(reply, &mut answer);
         }

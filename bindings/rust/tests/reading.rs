@@ -32,7 +32,7 @@ fn told(tables: &mut Tables, from: u16, member: u8, payload: &[u8]) -> Vec<u8> {
     let mut message = vec![a, b, 0, 0, 0, 0, 0, 0, 7, 1, 0x80, 2, member, 0, length];
     message.extend(payload);
     let mut reply = [0; LONGEST];
-    let (outcome, length) = tables.message(&message, &mut reply, &mut [0; LIST_LENGTH]);
+    let (outcome, length, _) = tables.message(&message, &mut reply, &mut [0; LIST_LENGTH]);
     assert_eq!(outcome, Outcome::Done);
     reply[HEADER_LENGTH..length].to_vec()
 }
@@ -122,7 +122,7 @@ fn sessions_that_are_not_sound_are_refused() {
         assert_eq!(tables.admit(9, 0, Units::new()), Outcome::Unsound);
         assert_eq!(tables.release(MOTOR), Outcome::Unsound);
         let answer = tables.message(&[], &mut [0; LONGEST], &mut [0; LIST_LENGTH]);
-        assert_eq!(answer, (Outcome::Unsound, 0));
+        assert_eq!(answer, (Outcome::Unsound, 0, None));
         assert_eq!(tables, before);
     }
 }

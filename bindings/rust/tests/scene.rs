@@ -32,8 +32,8 @@ fn commanded(tables: &mut Tables, member: u8, payload: &[u8]) -> u8 {
     let mut message = vec![1, 1, 0, 0, 0, 0, 0, 0, 7, 1, 0x80, 2, member, 0, length];
     message.extend(payload);
     let mut reply = [0; LONGEST];
-    let answer = tables.message(&message, &mut reply, &mut [0; LIST_LENGTH]);
-    assert_eq!(answer, (Outcome::Done, 16));
+    let (outcome, length, _) = tables.message(&message, &mut reply, &mut [0; LIST_LENGTH]);
+    assert_eq!((outcome, length), (Outcome::Done, 16));
     reply[HEADER_LENGTH]
 }
 
@@ -42,7 +42,7 @@ fn moves(tables: &mut Tables, device: u16, unit: u8, interface: u16) -> bool {
     let [[a, b], [c, d]] = [device, interface].map(u16::to_be_bytes);
     let message = [a, b, unit, 0x7F, 0xFF, 0xFF, 0, 0, 8, 1, c, d, 1, 0, 0];
     let mut list = [0; LIST_LENGTH];
-    let (outcome, count) = tables.message(&message, &mut [0; LONGEST], &mut list);
+    let (outcome, count, _) = tables.message(&message, &mut [0; LONGEST], &mut list);
     match outcome {
         Outcome::Forwarded => recipients(&list, count).eq([(MOTOR, 1)]),
         Outcome::Nobody => false,

@@ -1,5 +1,7 @@
 //! A valance with three motors, units 1, 2 and 9: which units exist, and which sets are refused.
-use gneissfold::{code, recipients, Outcome, Tables, Units, HEADER_LENGTH, LIST_LENGTH, LONGEST};
+use gneissfold::{
+    code, recipients, Outcome, Reason, Tables, Units, HEADER_LENGTH, LIST_LENGTH, LONGEST,
+};
 
 const SWITCH: u16 = 3;
 const VALANCE: u16 = 4;
@@ -19,7 +21,7 @@ fn house() -> Tables {
 /// What becomes of a message, and whom it goes to.
 fn sent(tables: &mut Tables, message: &[u8]) -> (Outcome, Vec<(u16, u8)>) {
     let mut list = [0; LIST_LENGTH];
-    let (outcome, count) = tables.message(message, &mut [0; LONGEST], &mut list);
+    let (outcome, count, _) = tables.message(message, &mut [0; LONGEST], &mut list);
     (outcome, recipients(&list, count).collect())
 }
 
@@ -29,15 +31,15 @@ fn command(from: (u16, u8), to: (u16, u8)) -> [u8; HEADER_LENGTH] {
     [a, b, from.1, c, d, to.1, 0, 0, 8, 1, 0x82, 0, 1, 0, 0]
 }
 
-/// The code that Add Bind gets: 3:01, server interface 0x0200, to this unit of the valance.
-fn bound(tables: &mut Tables, unit: u8) -> u8 {
+/// What Add Bind gets, its code and a reason: 3:01, server interface 0x0200, to this unit of the valance.
+fn bound(tables: &mut Tables, unit: u8) -> (u8, Option<Reason>) {
     let add_bind = [
         0, 3, 1, 0, 0, 0, 0, 0, 7, 1, 0x80, 2, 1, 0, 8, 0, 3, 1, 0x82, 0, 0, 4, unit,
     ];
     let mut reply = [0; LONGEST];
-    let answer = tables.message(&add_bind, &mut reply, &mut [0; LIST_LENGTH]);
-    assert_eq!(answer, (Outcome::Done, 16));
-    reply[HEADER_LENGTH]
+    let (outcome, length, reason) = tables.message(&add_bind, &mut reply, &mut [0; LIST_LENGTH]);
+    assert_eq!((outcome, length), (Outcome::Done, 16));
+    (reply[HEADER_LENGTH], reason)
 }
 
 #[test]
@@ -66,8 +68,9 @@ fn the_units_of_its_set_exist_and_no_others() {
 #[test]
 fn a_switch_is_bound_to_a_unit_of_its_set_alone() {
     let mut tables = house();
-    assert_eq!(bound(&mut tables, 8), code::INVALID_ARGUMENT);
-    assert_eq!(bound(&mut tables, 9), code::OK);
+    let refused = (code::INVALID_ARGUMENT, Some(Reason::DestinationUnit));
+    assert_eq!(bound(&mut tables, 8), refused);
+    assert_eq!(bound(&mut tables, 9), (code::OK, None));
     let pressed = sent(&mut tables, &command((SWITCH, 1), (0x7FFF, 0xFF)));
     assert_eq!(pressed, (Outcome::Forwarded, vec![(VALANCE, 9)]));
 }

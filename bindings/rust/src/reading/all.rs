@@ -14,7 +14,8 @@ pub const MOST_STARTS: usize = 5;
 /// Reads all binds, for a unit of a device that has rights.
 ///
 /// `exchange` sends a message and writes the reply into the room, [`LONGEST`] octets, as [`message`](crate::message) does, and gives outcome and
-/// length. Who sends by radio gives [`Outcome::Done`] and the length of what came back, 0 where nothing did: then an end is sent too.
+/// length; no message here has a reason. Who sends by radio gives [`Outcome::Done`] and the length of what came back, 0 where nothing did: then an
+/// end is sent too.
 ///
 /// Where the binds change in between, the session is closed and what was read is dropped; it starts again, [`MOST_STARTS`] times at most, and
 /// then answers [`ReadError::KeepsChanging`]. Whatever comes of it, it sends an end where the session may be open. A session is the device's: one
