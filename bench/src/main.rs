@@ -33,7 +33,7 @@ fn part(state: &mut State, call: &Call) -> (u8, usize) {
     } = state;
     match call {
         Call::Message(octets) => {
-            let (outcome, count) = gneissfold::message(
+            let (outcome, count, _) = gneissfold::message(
                 devices, binds, groups, members, sessions, octets, reply, list,
             );
             (outcome.number(), count)
@@ -56,10 +56,20 @@ fn other(state: &mut State, call: &Call) -> (u8, usize) {
         reply,
         list,
     } = state;
-    let mut count = 0;
+    let (mut count, mut reason, mut octet) = (0, 0, 0);
     let outcome = match call {
         Call::Message(octets) => other_reading::message(
-            devices, binds, groups, members, sessions, octets, reply, list, &mut count,
+            devices,
+            binds,
+            groups,
+            members,
+            sessions,
+            octets,
+            reply,
+            list,
+            &mut count,
+            &mut reason,
+            &mut octet,
         ),
         Call::Release(address) => {
             other_reading::release(devices, binds, groups, members, sessions, *address)
