@@ -10,7 +10,13 @@ ghost use Rattle.rules.specs.Sound.{bindFits};
 ghost use Rattle.faults.specs.Parts.{unitFault, sourceFault, destinationFault};
 
 // The first of the two that is not there: the device, or its unit. The unit is looked for first, since where it is there its device is.
-fn unit_fault(devices: &[u8], device: DeviceAddress, unit: u8, no_device: Reason, no_unit: Reason) -> Reason
+fn unit_fault(
+    devices: &[u8],
+    device: DeviceAddress,
+    unit: u8,
+    no_device: Reason,
+    no_unit: Reason,
+) -> Reason
     ensures { λ r. ⌜ r ≡ unitFault (table Devices (now (devices .entry))) device unit «no_device» «no_unit» ⌝ }
 {
     if existing::unit_exists(devices, device, unit) {
@@ -32,7 +38,13 @@ fn source_fault(bind: [u8; 8], devices: &[u8]) -> Reason
     let source = bind_records::bind_source(bind);
     if !bind_records::from_any_unit(bind) {
         let unit = bind_records::bind_source_unit(bind);
-        return unit_fault(devices, source, unit, Reason::NoSourceDevice, Reason::NoSourceUnit);
+        return unit_fault(
+            devices,
+            source,
+            unit,
+            Reason::NoSourceDevice,
+            Reason::NoSourceUnit,
+        );
     }
     if !existing::device_exists(devices, source) {
         return Reason::NoSourceDevice;
@@ -52,7 +64,13 @@ fn destination_fault(bind: [u8; 8], devices: &[u8], groups: &[u8]) -> Reason
     }
     let device = bind_records::bound_device(bind);
     let unit = bind_records::bind_unit(bind);
-    let fault = unit_fault(devices, device, unit, Reason::NoDestinationDevice, Reason::NoDestinationUnit);
+    let fault = unit_fault(
+        devices,
+        device,
+        unit,
+        Reason::NoDestinationDevice,
+        Reason::NoDestinationUnit,
+    );
     if fault.number() != 0 {
         return fault;
     }

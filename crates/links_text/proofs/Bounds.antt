@@ -1,14 +1,14 @@
 -- What a message answers is within what it was lent: a reply's length within the reply, three octets a recipient within the list.
 use Rattle.words.specs.Basics.{_≡_, refl, ap, Bool, true, false, cond, List, [], _∷_, ℕ, _*_, _≤_, arith, eqb, length, drop, length-append}
 use Rattle.words.specs.Outcomes.{numberOf, valueOf}
-use Rattle.rules.specs.Types.{Fields, Command, Binds, Members, Outcome, Way}
+use Rattle.rules.specs.Types.{Fields, Command, Binds, Members, Outcome, Reason, Way}
 use Rattle.rules.specs.Octets.{over}
 use Rattle.rules.specs.Units.{unitOctets}
 use Rattle.rules.specs.Frame.{Lent, tables}
 use Rattle.rules.specs.Message.{fields, payload, reply}
 use Rattle.rules.specs.Recipients.{recipients}
 use Rattle.rules.specs.Commands.{judge, replyPayload}
-use Rattle.rules.specs.Calls.{Answer, answer, answered, handled, forwarded, follow, message}
+use Rattle.rules.specs.Calls.{Answer, explaining, answered, handled, forwarded, follow, message}
 use Rattle.rules.proofs.Order.{length-unitOctets}
 use Rattle.rules.proofs.RoundTrip.{reply-length}
 use Rattle.rules.proofs.Ways.{Acting, Ways, refuses, serves, forwards, ways}
@@ -55,6 +55,6 @@ fits-message L m r l = by (ways L m r l)
     by (serves {k = k} p e) = fits-handled L k (fields m) (payload m) r l
     by (forwards {to = to} p e) = fits-forwarded (recipients (tables L Binds) (tables L Members) to (fields m)) L r l
 
-pub within : (L : Lent) (m r l : List ℕ) {o : Outcome} {L' : Lent} {r' l' : List ℕ} → answer o L' r' l' ≡ message L m r l → Within o r' l'
+pub within : (L : Lent) (m r l : List ℕ) {o : Outcome} {f : Reason} {L' : Lent} {r' l' : List ℕ} → explaining o f L' r' l' ≡ message L m r l → Within o r' l'
 within L m r l e =
     rw (ap (λ (x : Answer). x .outcome) e, ap (λ (x : Answer). x .reply) e, ap (λ (x : Answer). x .list) e) (fits-message L m r l)

@@ -2,7 +2,7 @@
 -- zeros.
 use Rattle.words.specs.Basics.{cond, List, ℕ, _+_, _*_, ltb, length, take, drop, replicate}
 use Rattle.words.specs.Names.{longest}
-use Rattle.rules.specs.Types.{Devices, Binds, Groups, Members, Sessions}
+use Rattle.rules.specs.Types.{Reason, NoFault, Devices, Binds, Groups, Members, Sessions}
 use Rattle.rules.specs.Tables.{free}
 use Rattle.rules.specs.Layout.{most, full}
 use Rattle.rules.specs.Frame.{Lent, lent}
@@ -39,3 +39,7 @@ answered s = message (given s) (drop allTables s) (replicate longest 0) (replica
 -- "input under 3,712 is short" (document 02, request 2): it "prints `short input` alone"
 unfoldable pub printed : List ℕ → List ℕ
 printed s = cond (ltb (length s) allTables) shortText (answerText (answered s .outcome) (answered s .reply) (answered s .list))
+
+-- why an Add Bind is answered 0x02 (document 02, request 6)
+unfoldable pub reasoned : List ℕ → Reason
+reasoned s = cond (ltb (length s) allTables) NoFault (answered s .reason)

@@ -1,8 +1,10 @@
-// What the program `links` prints for its input, made over lent buffers (document 01, Rows to try).
+// What the program `links` prints for its input, made over lent buffers (document 01, Rows to try), and why an Add Bind is answered 0x02 (document 02,
+// request 6).
 use words::Fields;
-ghost use Rattle.words.specs.Basics.{_≤_, length};
+use words::Reason;
+ghost use Rattle.words.specs.Basics.{_≡_, _≤_, length};
 ghost use Rattle.writing.specs.Writing.{Printed};
-ghost use Rattle.links_text.specs.Printing.{allTables, printed};
+ghost use Rattle.links_text.specs.Printing.{allTables, printed, reasoned};
 
 // The tables at full size.
 const DEVICES: usize = layouts::MOST_DEVICES * layouts::DEVICE;
@@ -27,10 +29,16 @@ const AT_MESSAGE: usize = AT_MEMBERS + MEMBERS;
 // The list has room for every bind and every member.
 const LIST: usize = 3 * (layouts::MOST_BINDS + layouts::MOST_MEMBERS);
 
+// How long the text is, and the reason.
+pub struct Text {
+    pub length: usize,
+    pub reason: Reason,
+}
+
 // The text for a whole input: the tables are copied out of it, since a call may change them. No device has a read session.
-fn answer(input: &[u8], text: &mut [u8]) -> usize
+fn answer(input: &[u8], text: &mut [u8]) -> Text
     requires { ⌜ (allTables ≤ length (now input)) × (2048 ≤ length (now text)) ⌝ }
-    ensures { λ r. ⌜ Printed (printed (now (input .entry))) (now (text .entry)) r (now (text .exit)) ⌝ }
+    ensures { λ r. ⌜ Printed (printed (now (input .entry))) (now (text .entry)) (r .length) (now (text .exit)) × (r .reason ≡ reasoned (now (input .entry))) ⌝ }
 {
     let mut devices = [0u8; DEVICES];
     let mut binds = [0u8; BINDS];
@@ -43,7 +51,7 @@ fn answer(input: &[u8], text: &mut [u8]) -> usize
     let mut sessions = [records::FREE; SESSIONS];
     let mut reply = [0u8; Fields::LONGEST];
     let mut list = [0u8; LIST];
-    let outcome = hub::message(
+    let told = hub::message(
         &mut devices,
         &mut binds,
         &mut groups,
@@ -53,16 +61,26 @@ fn answer(input: &[u8], text: &mut [u8]) -> usize
         &mut reply,
         &mut list,
     );
-    report::write_answer(outcome, &reply, &list, text)
+    let outcome = told.outcome;
+    let reason = told.reason;
+    let n = report::write_answer(outcome, &reply, &list, text);
+    Text {
+        length: n,
+        reason: reason,
+    }
 }
 
-// Writes what `links` prints for this input over `text`, and returns how long it is.
-pub fn print(input: &[u8], text: &mut [u8]) -> usize
+// Writes what `links` prints for this input over `text`.
+pub fn print(input: &[u8], text: &mut [u8]) -> Text
     requires { ⌜ 2048 ≤ length (now text) ⌝ }
-    ensures { λ r. ⌜ Printed (printed (now (input .entry))) (now (text .entry)) r (now (text .exit)) ⌝ }
+    ensures { λ r. ⌜ Printed (printed (now (input .entry))) (now (text .entry)) (r .length) (now (text .exit)) × (r .reason ≡ reasoned (now (input .entry))) ⌝ }
 {
     if input.len() < AT_MESSAGE {
-        return report::write_short(text);
+        let n = report::write_short(text);
+        return Text {
+            length: n,
+            reason: Reason::NoFault,
+        };
     }
     answer(input, text)
 }

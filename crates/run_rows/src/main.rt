@@ -121,7 +121,7 @@ fn main() {
     while step < 71 {
         let msg = message_of(step);
         let n = length_of(step);
-        let outcome = hub::message(
+        let told = hub::message(
             &mut devices,
             &mut binds,
             &mut groups,
@@ -131,6 +131,7 @@ fn main() {
             &mut reply,
             &mut list,
         );
+        let outcome = told.outcome;
         say(step, outcome.number(), reply[15]);
         step += 1;
     }

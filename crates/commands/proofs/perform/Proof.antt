@@ -55,7 +55,7 @@ returns c = λ L.
     without-rights (tables L start) (start .args .source) (start .args .command) (payload start) (r .before .demands .ensures .0) (r .rights-fit .ensures)
     (not-true _ (i .if1 .taken)) in (
       rw (w .refuse .ensures .0, w .refuse .ensures .2, w .before .not-authorized .ensures, judged)
-      (refused (tables L start) (start .args .source) (start .args .command) (payload start) _ notAuthorized (λ z. omega arith)),
+          (refused (tables L start) (start .args .source) (start .args .command) (payload start) _ notAuthorized (λ z. omega arith)),
       w .refuse .ensures .1 ∙ told-nothing _ _ _ judged,
     )
 
@@ -71,7 +71,7 @@ returns-2 c = λ L.
     wrong-length (tables L start) (start .args .source) (start .args .command) (payload start) (d .0) (r .rights-fit .ensures)
     (not-false _ (f .before .before .before .if1 .left)) (d .1) (j .if2 .taken) in (
       rw (w .refuse2 .ensures .0, w .refuse2 .ensures .2, w .before .invalid-argument .ensures, judged)
-      (refused (tables L start) (start .args .source) (start .args .command) (payload start) _ invalidArgument (λ z. omega arith)),
+          (refused (tables L start) (start .args .source) (start .args .command) (payload start) _ invalidArgument (λ z. omega arith)),
       w .refuse2 .ensures .1 ∙ told-fault _ _ _ (fault-is f L) judged,
     )
 
@@ -88,7 +88,7 @@ returns-3 c = λ L.
     faulty (tables L start) (start .args .source) (start .args .command) (payload start) (d .0) (r .rights-fit .ensures)
     (not-false _ (f .before .before .before .if1 .left)) (d .1) (n .before .if2 .left) (fault-is f L) (λ z. j .if3 .taken (n .number .ensures ∙ z)) in (
       rw (w .refuse3 .ensures .0, w .refuse3 .ensures .2, w .before .invalid-argument2 .ensures, judged)
-      (refused (tables L start) (start .args .source) (start .args .command) (payload start) _ invalidArgument (λ z. omega arith)),
+          (refused (tables L start) (start .args .source) (start .args .command) (payload start) _ invalidArgument (λ z. omega arith)),
       w .refuse3 .ensures .1 ∙ told-fault _ _ _ (fault-is f L) judged,
     )
 
@@ -131,7 +131,7 @@ returns-4 c = λ L.
     behind-checks (tables L start) (start .args .source) (start .args .command) (payload start) (d .0) (r .rights-fit .ensures)
     (not-false _ (f .before .before .before .if1 .left)) (d .1) (n .before .if2 .left) (fault-is f L) none in (
       closes-too (tables L start) (start .args .source) (start .args .command) (payload start) _ judged (t .touches .ensures) (a .act .ensures L)
-      (z .close-all .ensures),
+          (z .close-all .ensures),
       told-no-fault _ _ _ _ (fault-is f L) none,
     )
 

@@ -17,7 +17,7 @@ returns-2 c =
     let s = u .before in
     rw (
       from-unit _ _ (sym (s .before .before .from-any-device .ensures) ∙ s .before .if1 .left)
-      (sym (u .from-any-unit .ensures) ∙ not-true _ (c .before .before .if2 .taken)),
+          (sym (u .from-any-unit .ensures) ∙ not-true _ (c .before .before .if2 .taken)),
       ← s .bind-source .ensures,
       ← c .before .bind-source-unit .ensures,
     ) (c .unit-fault .ensures)
@@ -29,7 +29,7 @@ returns-3 c =
     let s = u .before in
     rw (
       from-device _ _ (sym (s .before .before .from-any-device .ensures) ∙ s .before .if1 .left)
-      (sym (u .from-any-unit .ensures) ∙ not-false _ (d .before .if2 .left)),
+          (sym (u .from-any-unit .ensures) ∙ not-false _ (d .before .if2 .left)),
       ← s .bind-source .ensures,
     ) (sym (ask-fail _ _ (sym (d .device-exists .ensures) ∙ not-true _ (c .if3 .taken))))
 
@@ -40,7 +40,7 @@ returns-4 c =
     let s = u .before in
     rw (
       from-device _ _ (sym (s .before .before .from-any-device .ensures) ∙ s .before .if1 .left)
-      (sym (u .from-any-unit .ensures) ∙ not-false _ (d .before .if2 .left)),
+          (sym (u .from-any-unit .ensures) ∙ not-false _ (d .before .if2 .left)),
       ← s .bind-source .ensures,
     ) (sym (ask-pass _ _ (sym (d .device-exists .ensures) ∙ not-false _ (c .if3 .left))))
 

@@ -10,8 +10,9 @@ use Rattle.links_text.proofs.answer.Tie as tie
 write-answer-requires : tie.Need-write-answer-requires
 write-answer-requires c κs =
     let m : tie.After-message = search c in
-    let p : tie.After-put3 = search m in
-    let start : tie.Start = search p in
+    let p4 : tie.After-put4 = search m in
+    let p2 : tie.After-put2 = search p4 in
+    let start : tie.Start = search p2 in
     let w = within _ _ _ _ (m .message .ensures) in
     record {
       reply = w .reply;
@@ -29,8 +30,10 @@ returns c =
     let p2 : tie.After-put2 = search p3 in
     let p : tie.After-put = search p2 in
     let start : tie.Start = search p in
-    rw (← answer-text (now (start .args .input)) _ _ _ _ _ (start .pre .0) (p .put .ensures) (p2 .put2 .ensures) (p3 .put3 .ensures) (p4 .put4 .ensures)
-    (rest-is allTables (now (start .args .input))) (m .message .ensures)) (c .before .before .write-answer .ensures)
+    let told = answer-text (now (start .args .input)) _ _ _ _ _ (start .pre .0) (p .put .ensures) (p2 .put2 .ensures) (p3 .put3 .ensures) (p4 .put4 .ensures)
+    (rest-is allTables (now (start .args .input))) (m .message .ensures) in
+    let w : tie.After-write-answer = search c in
+    (rw (← told .0) (w .write-answer .ensures), told .1)
 
 pub answer-spec : {M : Type 1} → statement M
 answer-spec =
