@@ -60,8 +60,8 @@ enum gneissfold_code {
 
 /*
  * Reasons: what is wrong with the bind of an Add Bind that is answered 0x02; the first that holds is given. Behind each stands its octet: the
- * first octet concerned of the payload, counted from 1, and 0 for the length. Octet o of the payload is octet 15 + o of the message. A source
- * of any device or any unit is asked nothing.
+ * first octet concerned of the payload, counted from 1, and 0 for the length. Octet o of the payload is octet 15 + o of the message. Of a
+ * source of any device nothing is asked; of any unit of a device that is written out, only that the device exists.
  */
 enum gneissfold_reason {
     GNEISSFOLD_REASON_NONE = 0,                /* octet 0: any other answer, command or outcome */

@@ -4,7 +4,7 @@ use core::fmt;
 
 /// What is wrong with a bind, with the paper's numbers: `reason as u8` is the number. Of several that hold it is the first.
 ///
-/// A source of [any](crate::any) device or any unit is asked nothing.
+/// Of a source of [any](crate::any) device nothing is asked; of any unit of a device that is written out, only that the device exists.
 #[derive(Clone, Copy, Debug, PartialEq, Eq, Hash)]
 #[repr(u8)]
 pub enum Reason {

@@ -113,7 +113,7 @@ fn the_concentrator_is_there_with_unit_0_alone() {
 }
 
 #[test]
-fn a_source_of_any_is_asked_nothing() {
+fn a_source_of_any_is_asked_for_its_device_alone() {
     let [a, b] = any::DEVICE.to_be_bytes();
     for source in [[a, b, any::UNIT], [a, b, 9], unit(any::UNIT, SWITCH)] {
         let mut tables = house();
@@ -183,10 +183,12 @@ fn reasons_have_the_papers_numbers_octets_and_a_sentence() {
     assert_eq!(numbers, [1, 2, 3, 4, 5, 6, 7, 8, 9]);
     let octets: Vec<_> = reasons.iter().map(|reason| reason.octet()).collect();
     assert_eq!(octets, [0, 1, 3, 8, 6, 8, 6, 6, 1]);
-    // In the crate as in the header for C.
+    // In the crate as in the header for C, and as `links` says them.
     let header = include_str!("../../../include/gneissfold.h");
-    let sentences = header.split("return \"").skip(1);
-    let sentences = sentences.filter_map(|rest| rest.split('"').next());
-    let words = reasons.iter().map(Reason::to_string);
-    assert!(sentences.skip(1).take(9).eq(words));
+    let links = include_str!("../../../crates/reason_text/specs/Saying.antt");
+    for (text, start) in [(header, "return \""), (links, "= ascii \"")] {
+        let sentences = text.split(start).skip(2);
+        let sentences = sentences.filter_map(|rest| rest.split('"').next());
+        assert!(sentences.take(9).eq(reasons.iter().map(Reason::to_string)));
+    }
 }

@@ -11,7 +11,7 @@ use Rattle.rules.specs.Sessions.{inSession, alters, closing}
 use Rattle.rules.specs.Commands.{removal, row, judge, onOk, done, replyPayload}
 use Rattle.rules.proofs.Lists.{and-true, and-false, pass}
 use Rattle.rules.proofs.Frames.{replaced, replaced-same}
-use Rattle.rules.proofs.Granted.{invalid}
+use Rattle.rules.proofs.Judged.{invalid}
 use Rattle.acting.specs.Acting.{Performed, performed, performing, acting}
 use Rattle.commands.specs.Perform.{judging, touches}
 

@@ -1,14 +1,14 @@
 -- Laws of the chain: its parts one behind the other are the whole, and a unit that exists is one of a device that does.
-use Rattle.words.specs.Basics.{_≡_, refl, sym, ap, _∙_, Bool, true, false, cond, not, _||_, List, ℕ, eqb, eq-eqb, ne-eqb}
-use Rattle.words.specs.Names.{noUnit, concentrator}
+use Rattle.words.specs.Basics.{_≡_, refl, sym, ap, _∙_, Bool, true, false, cond, not, List, ℕ, eqb, eq-eqb, ne-eqb}
+use Rattle.words.specs.Names.{concentrator}
 use Rattle.words.specs.Reasons.{reasonNumber, faultless}
-use Rattle.rules.specs.Types.{DeviceAddress, Reason, NoFault, PayloadLength, NoSourceDevice, NoSourceUnit, DestinationUnitFF, NoDestinationDevice, NoDestinationUnit}
-use Rattle.rules.specs.Types.{NoGroup, BoundToItself, AlreadyPresent}
+use Rattle.rules.specs.Types.{DeviceAddress, Reason, NoFault, PayloadLength, NoSourceDevice, NoSourceUnit, DestinationUnitFF, NoDestinationDevice}
+use Rattle.rules.specs.Types.{NoDestinationUnit, NoGroup, BoundToItself, AlreadyPresent}
 use Rattle.rules.specs.Lists.{any, ask}
 use Rattle.rules.specs.Tables.{Rec, used, addressed}
 use Rattle.rules.specs.Layout.{bindSource, bindSourceUnit, bindFrom, fromAnyDevice, fromAnyUnit, toGroup, boundGroup, boundDevice, bindUnit, bindTo}
 use Rattle.rules.specs.Exists.{admitted, hasUnit, unitExists, deviceExists, groupExists}
-use Rattle.rules.specs.Faults.{fault, bindFault}
+use Rattle.rules.specs.Faults.{hasSourceDevice, hasSourceUnit, namesUnit, hasBoundDevice, hasBoundUnit, hasBoundGroup, toAnother, fault, bindFault}
 use Rattle.rules.proofs.Lists.{split, any-weaken}
 use Rattle.faults.specs.Parts.{orElse, unitFault, sourceFault, destinationFault}
 
@@ -21,11 +21,11 @@ two-asks true true f g rest m n = refl
 
 module _ (ds gs : List Rec) (b : Rec) where
   -- the source, the unit that is none, the destination
-  pub in-parts : bindFault ds gs b ≡ orElse (sourceFault ds b) (ask (not (eqb (bindUnit b) noUnit)) DestinationUnitFF (destinationFault ds gs b))
+  pub in-parts : bindFault ds gs b ≡ orElse (sourceFault ds b) (ask (namesUnit b) DestinationUnitFF (destinationFault ds gs b))
   unfolding fault ask sourceFault destinationFault faultless orElse
   in-parts =
-      two-asks (fromAnyDevice b || deviceExists ds (bindSource b)) (fromAnyDevice b || fromAnyUnit b || unitExists ds (bindSource b) (bindSourceUnit b))
-      NoSourceDevice NoSourceUnit (ask (not (eqb (bindUnit b) noUnit)) DestinationUnitFF (destinationFault ds gs b)) refl refl
+      two-asks (hasSourceDevice ds b) (hasSourceUnit ds b) NoSourceDevice NoSourceUnit
+      (ask (namesUnit b) DestinationUnitFF (destinationFault ds gs b)) refl refl
 
   -- the destination, by its flag
 
@@ -41,13 +41,11 @@ module _ (ds gs : List Rec) (b : Rec) where
       (ask (not (eqb (bindTo b) (bindFrom b))) BoundToItself NoFault) refl refl)
 
   -- the length before, the presence behind
-  pub around : (long new : Bool) → fault long ds gs b new ≡ ask long PayloadLength (orElse (bindFault ds gs b) (ask new AlreadyPresent NoFault))
+  pub around : (whole new : Bool) → fault whole ds gs b new ≡ ask whole PayloadLength (orElse (bindFault ds gs b) (ask new AlreadyPresent NoFault))
   unfolding fault ask faultless orElse
-  around long new =
-      ap (λ (r : Reason). ask long PayloadLength r)
-      (step (fromAnyDevice b || deviceExists ds (bindSource b)) (fromAnyDevice b || fromAnyUnit b || unitExists ds (bindSource b) (bindSourceUnit b))
-      (not (eqb (bindUnit b) noUnit)) (toGroup b || deviceExists ds (boundDevice b)) (toGroup b || unitExists ds (boundDevice b) (bindUnit b))
-      (not (toGroup b) || groupExists gs (boundGroup b)) (toGroup b || not (eqb (bindTo b) (bindFrom b))))
+  around whole new =
+      ap (λ (r : Reason). ask whole PayloadLength r)
+      (step (hasSourceDevice ds b) (hasSourceUnit ds b) (namesUnit b) (hasBoundDevice ds b) (hasBoundUnit ds b) (hasBoundGroup gs b) (toAnother b))
     where
       chain : Reason → (a b c d e f g : Bool) → Reason
       chain rest a b c d e f g =

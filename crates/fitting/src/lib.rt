@@ -1,4 +1,5 @@
-// When the fields of a record are in range (document 01, Tables): the rules of a table that is sound, and those of Add Bind and Add to Group.
+// When the fields of a record are in range (document 01, Tables): the rules of a table that is sound, and those of Add to Group. What a bind must meet is in
+// `faults`.
 use device_records::RIGHTS;
 use device_records::UNITS;
 use device_records::ZERO;

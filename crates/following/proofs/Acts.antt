@@ -41,7 +41,8 @@ module _ (L : Lent) (k : Command) (f : Fields) (p old : List ℕ) {L' : Lent} {p
   performed-short = omega (arith, within-room payloadOf (behind old) written-over s, written-length, behind-length old h)
 
   -- the payload behind, the header before it
-  pub serves : {f' : Reason} → f' ≡ reasoning L (f .source) k p → explaining (Done (headerLength + n)) f' L' (over (header (answering f n)) (putMid headerLength (longest - headerLength) old part)) []
+  pub serves : {v : Reason} → v ≡ reasoning L (f .source) k p
+      → explaining (Done (headerLength + n)) v L' (over (header (answering f n)) (putMid headerLength (longest - headerLength) old part)) []
       ≡ handled L k f p old []
   unfolding handled answered performing
   serves e =

@@ -26,8 +26,8 @@ pub fn serve(
 ) -> Told
     requires { ⌜ Servable (now devices) (now binds) (now groups) (now members) (now sessions) f (now reply) ⌝ }
     ensures { λ r. ⌜ ((L : Lent)
-        → explaining (r .outcome) (r .reason) (beside L (now (devices .entry)) (now (binds .exit)) (now (groups .exit)) (now (members .exit)) (now (sessions .exit)))
-        (now (reply .exit)) []
+        → explaining (r .outcome) (r .reason)
+        (beside L (now (devices .entry)) (now (binds .exit)) (now (groups .exit)) (now (members .exit)) (now (sessions .exit))) (now (reply .exit)) []
         ≡ handled (beside L (now (devices .entry)) (now (binds .entry)) (now (groups .entry)) (now (members .entry)) (now (sessions .entry))) command f
         (now (payload .entry)) (now (reply .entry)) []) ⌝ }
 {

@@ -4,26 +4,19 @@ use contract.Lifetimes.{Lfts}
 use borrow.Fn.World
 use borrow.Fn.Kinds as K
 use denote.Triple.Clauses
-use Rattle.words.specs.Basics.{_≡_, sym, ap, _∙_, Bool, true, false, List, ℕ, eqb, now}
-use Rattle.words.specs.Names.{invalidArgument, headerLength}
+use Rattle.words.specs.Basics.{_≡_, sym, ap, _∙_, true, false, List, ℕ, eqb, now}
 use Rattle.words.specs.Reasons.{faultless}
 use Rattle.words.specs.declared.Decoded.the-variants.{Is}
 use Rattle.rules.specs.Types.{AddBind}
-use Rattle.rules.specs.Lists.{_&_}
-use Rattle.rules.specs.Octets.{octet}
 use Rattle.rules.specs.Message.{fields}
 use Rattle.rules.specs.Payloads.{command}
 use Rattle.rules.specs.Explains.{refusedBy}
 use Rattle.rules.proofs.Explains.{explains}
-use Rattle.gneissfold.specs.Numbers.{MessageTold}
+use Rattle.gneissfold.specs.Numbers.{MessageTold, refused}
 use Rattle.gneissfold.proofs.Once.{message-tells}
 use Rattle.gneissfold.proofs.gneissfold_message
 use Rattle.gneissfold.proofs.gneissfold_message.Kinds as message-kinds
 use Rattle.gneissfold.proofs.gneissfold_message.Reads as message-reads
-
--- was a command answered 0x02, by what the caller is told?
-unfoldable pub refused : MessageTold → Bool
-refused t = eqb (t .number) 0 & eqb (octet headerLength (t .reply)) (invalidArgument .0)
 
 module _ (κs : Lfts (gneissfold_message.signature .lifetimes)) (a : World.ArgsD gneissfold_message.signature κs)
     (r : World.ResD gneissfold_message.signature κs) (s : Clauses.AtExit (K.endedOf _ message-kinds.ps message-kinds.r) κs)

@@ -1,9 +1,12 @@
 -- What the exported calls answer: the answers of `rules`, with the outcome as the paper's number (document 01, Outcomes) and the count or length that
 -- goes with it, and a reason as its number and its octet (document 02, request 6).
-use Rattle.words.specs.Basics.{List, [], _∷_, ℕ}
+use Rattle.words.specs.Basics.{Bool, List, [], _∷_, ℕ, eqb}
+use Rattle.words.specs.Names.{invalidArgument, headerLength}
 use Rattle.words.specs.Outcomes.{numberOf, valueOf}
 use Rattle.words.specs.Reasons.{reasonNumber, reasonOctet}
 use Rattle.rules.specs.Types.{Fields, Reading}
+use Rattle.rules.specs.Lists.{_&_}
+use Rattle.rules.specs.Octets.{octet}
 use Rattle.rules.specs.Frame.{Lent}
 use Rattle.rules.specs.Calls.{Answer}
 use Rattle.rules.specs.Copy.{CopyAnswer}
@@ -26,6 +29,10 @@ messageTold n c f o L r l = record { number = n; count = c; reason = f; octet = 
 abbrev pub ofMessage : Answer → MessageTold
 ofMessage a =
     messageTold (numberOf (a .outcome)) (valueOf (a .outcome)) (reasonNumber (a .reason)) (reasonOctet (a .reason)) (a .tables) (a .reply) (a .list)
+
+-- was a command answered 0x02: outcome 0, and that code in octet 16 of the reply?
+unfoldable pub refused : MessageTold → Bool
+refused t = eqb (t .number) 0 & eqb (octet headerLength (t .reply)) (invalidArgument .0)
 
 -- of admit and release: "they .. return 0", so the number says all
 pub record HostTold : Type 0 where

@@ -36,7 +36,8 @@ pub fn message(
     reply: &mut [u8],
     list: &mut [u8],
 ) -> Told
-    ensures { λ r. ⌜ explaining (r .outcome) (r .reason) (lent (now (devices .exit)) (now (binds .exit)) (now (groups .exit)) (now (members .exit)) (now (sessions .exit)))
+    ensures { λ r. ⌜ explaining (r .outcome) (r .reason)
+        (lent (now (devices .exit)) (now (binds .exit)) (now (groups .exit)) (now (members .exit)) (now (sessions .exit)))
         (now (reply .exit)) (now (list .exit))
         ≡ message (lent (now (devices .entry)) (now (binds .entry)) (now (groups .entry)) (now (members .entry)) (now (sessions .entry)))
         (now (msg .entry)) (now (reply .entry)) (now (list .entry)) ⌝ }

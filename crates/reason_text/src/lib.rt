@@ -1,6 +1,6 @@
 // A reason in words that a fitter understands (document 02, request 6).
 use words::Reason;
-ghost use Rattle.words.specs.Basics.{_≡_, _+_, _≤_, length};
+ghost use Rattle.words.specs.Basics.{_+_, _≤_, length};
 ghost use Rattle.writing.specs.Writing.{Wrote, Printed};
 ghost use Rattle.reason_text.specs.Saying.{sentence, reasonText};
 

@@ -3,15 +3,14 @@ use Rattle.words.specs.Basics.{_≡_, refl, sym, ap, _∙_, Bool, true, false, 
 use Rattle.words.specs.Names.{ok, notAuthorized, invalidArgument, notEnoughResources}
 use Rattle.words.specs.Outcomes.{numberOf}
 use Rattle.words.specs.Reasons.{faultless}
-use Rattle.rules.specs.Types.{DeviceAddress, Code, Reason, NoFault, PayloadLength, Command, AddBind, RemoveBinds, StartSession, EndSession, GetEntries}
-use Rattle.rules.specs.Types.{CreateGroup, DeleteGroup, AddToGroup, RemoveFromGroup, GetGroupInfo, Fields, Is, Devices, Binds, Groups}
+use Rattle.rules.specs.Types.{DeviceAddress, Code, NoFault, Command, AddBind, RemoveBinds, StartSession, EndSession, GetEntries}
+use Rattle.rules.specs.Types.{CreateGroup, DeleteGroup, AddToGroup, RemoveFromGroup, GetGroupInfo, Fields, Is, Devices, Binds}
 use Rattle.rules.specs.Lists.{ask, _&_}
 use Rattle.rules.specs.Octets.{octets, over}
 use Rattle.rules.specs.Tables.{someFree}
 use Rattle.rules.specs.Layout.{size}
 use Rattle.rules.specs.Frame.{Lent, Tables, tables}
 use Rattle.rules.specs.Message.{fields, payload, header, reply}
-use Rattle.rules.specs.Payloads.{command}
 use Rattle.rules.specs.Faults.{fault, addFault}
 use Rattle.rules.specs.Commands.{row, rightsFit, payloadFits, judge, explained, replyPayload}
 use Rattle.rules.specs.Calls.{Answer, answered, handled, message}

@@ -1,26 +1,23 @@
 -- Laws of the nine reasons: a bind without fault passes every check, and one that passes them has no fault.
-use Rattle.words.specs.Basics.{_≡_, refl, ap, _∙_, Bool, true, false, not, _||_, List, eqb, eqb-true, eqb-false}
-use Rattle.words.specs.Names.{noUnit}
+use Rattle.words.specs.Basics.{_≡_, refl, ap, _∙_, Bool, true, false, List, eqb-true, eqb-false}
 use Rattle.words.specs.Reasons.{reasonNumber, faultless}
 use Rattle.words.proofs.Apart.{reason-apart}
 use Rattle.rules.specs.Types.{Reason, NoFault, PayloadLength, NoSourceDevice, NoSourceUnit, DestinationUnitFF, NoDestinationDevice, NoDestinationUnit}
 use Rattle.rules.specs.Types.{NoGroup, BoundToItself, AlreadyPresent}
 use Rattle.rules.specs.Tables.{Rec}
-use Rattle.rules.specs.Layout.{bindSource, bindSourceUnit, bindFrom, fromAnyDevice, fromAnyUnit, toGroup, boundGroup, boundDevice, bindUnit, bindTo}
-use Rattle.rules.specs.Exists.{unitExists, deviceExists, groupExists}
-use Rattle.rules.specs.Faults.{fault}
+use Rattle.rules.specs.Faults.{hasSourceDevice, hasSourceUnit, namesUnit, hasBoundDevice, hasBoundUnit, hasBoundGroup, toAnother, fault}
 use Rattle.rules.proofs.Lists.{ask-pass, pass}
 
 -- the nine checks
-pub record Meets (long : Bool) (ds gs : List Rec) (b : Rec) (new : Bool) : Type 0 where
-  pub length : long ≡ true
-  pub source-device : (fromAnyDevice b || deviceExists ds (bindSource b)) ≡ true
-  pub source-unit : (fromAnyDevice b || fromAnyUnit b || unitExists ds (bindSource b) (bindSourceUnit b)) ≡ true
-  pub a-unit : not (eqb (bindUnit b) noUnit) ≡ true
-  pub device : (toGroup b || deviceExists ds (boundDevice b)) ≡ true
-  pub unit : (toGroup b || unitExists ds (boundDevice b) (bindUnit b)) ≡ true
-  pub group : (not (toGroup b) || groupExists gs (boundGroup b)) ≡ true
-  pub another : (toGroup b || not (eqb (bindTo b) (bindFrom b))) ≡ true
+pub record Meets (whole : Bool) (ds gs : List Rec) (b : Rec) (new : Bool) : Type 0 where
+  pub length : whole ≡ true
+  pub source-device : hasSourceDevice ds b ≡ true
+  pub source-unit : hasSourceUnit ds b ≡ true
+  pub a-unit : namesUnit b ≡ true
+  pub device : hasBoundDevice ds b ≡ true
+  pub unit : hasBoundUnit ds b ≡ true
+  pub group : hasBoundGroup gs b ≡ true
+  pub another : toAnother b ≡ true
   pub absent : new ≡ true
 
 -- nothing wrong is no fault, and each of the nine is one
@@ -32,8 +29,8 @@ wrong : (f : Reason) → faultless f ≡ false → f ≡ NoFault → ⊥
 unfolding faultless
 wrong f n e = eqb-false (reasonNumber f) 0 n (ap reasonNumber e)
 
-module _ {long : Bool} {ds gs : List Rec} {b : Rec} {new : Bool} where
-  pub meets : faultless (fault long ds gs b new) ≡ true → Meets long ds gs b new
+module _ {whole : Bool} {ds gs : List Rec} {b : Rec} {new : Bool} where
+  pub meets : faultless (fault whole ds gs b new) ≡ true → Meets whole ds gs b new
   unfolding fault faultless
   meets h =
       let c1 = pass (wrong PayloadLength refl) (none _ h) in
@@ -58,7 +55,7 @@ module _ {long : Bool} {ds gs : List Rec} {b : Rec} {new : Bool} where
       }
 
   -- what a table asks of the bind, which is all but its length and presence
-  pub by-fields : Meets long ds gs b new → Meets true ds gs b true
+  pub by-fields : Meets whole ds gs b new → Meets true ds gs b true
   by-fields m = record {
     length = refl;
     source-device = m .source-device;
@@ -71,11 +68,11 @@ module _ {long : Bool} {ds gs : List Rec} {b : Rec} {new : Bool} where
     absent = refl;
   }
 
-  pub no-fault : Meets long ds gs b new → fault long ds gs b new ≡ NoFault
+  pub no-fault : Meets whole ds gs b new → fault whole ds gs b new ≡ NoFault
   unfolding fault
   no-fault m = ask-pass _ _ (m .length) ∙ ask-pass _ _ (m .source-device) ∙ ask-pass _ _ (m .source-unit) ∙ ask-pass _ _ (m .a-unit)
       ∙ ask-pass _ _ (m .device) ∙ ask-pass _ _ (m .unit) ∙ ask-pass _ _ (m .group) ∙ ask-pass _ _ (m .another) ∙ ask-pass _ _ (m .absent)
 
-  pub fits-all : Meets long ds gs b new → faultless (fault long ds gs b new) ≡ true
+  pub fits-all : Meets whole ds gs b new → faultless (fault whole ds gs b new) ≡ true
   unfolding faultless
   fits-all m = rw (no-fault m)

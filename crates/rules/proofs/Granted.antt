@@ -1,12 +1,10 @@
 -- Every command answered 0x00 changes the tables in order, and changes them as the history's entries say.
 use Rattle.words.specs.Basics.{_≡_, refl, sym, ap, _∙_, Bool, true, false, cond, false≢true, List, ℕ, _+_, _*_, _<_, _≤_, arith, length, take, take-all}
-use Rattle.words.specs.Basics.{not, _||_}
-use Rattle.words.specs.Basics.{eqb, not-true, eq-eqb, eqb-true, leb-true}
-use Rattle.words.specs.Reasons.{faultless}
-use Rattle.words.specs.Names.{code, ok, notAuthorized, invalidArgument, noReadSession, notEnoughResources}
-use Rattle.rules.specs.Types.{DeviceAddress, GroupAddress, Code, Command, AddBind, RemoveBinds, StartSession, EndSession, GetEntries, CreateGroup}
+use Rattle.words.specs.Basics.{not, _||_, eqb, not-true, eq-eqb, eqb-true, leb-true}
+use Rattle.words.specs.Names.{ok}
+use Rattle.rules.specs.Types.{DeviceAddress, GroupAddress, Command, AddBind, RemoveBinds, StartSession, EndSession, GetEntries, CreateGroup}
 use Rattle.rules.specs.Types.{DeleteGroup, AddToGroup, RemoveFromGroup, GetGroupInfo, Kind, Devices, Binds, Groups, Members, Sessions}
-use Rattle.rules.specs.Lists.{any, ask, _&_}
+use Rattle.rules.specs.Lists.{any, _&_}
 use Rattle.rules.specs.Octets.{octet, octets, octetString}
 use Rattle.rules.specs.Tables.{Rec, used, someFree, matches, addressed, Change, none, store, wipe}
 use Rattle.rules.specs.Layout.{size, key, longestName, memberGroup, toGroup, boundGroup, groupRecord, toThisGroup, inGroup, sessionRecord}
@@ -16,7 +14,7 @@ use Rattle.rules.specs.Sound.{wholeRecords, deviceFits, bindFits, sessio
 use Rattle.rules.specs.Payloads.{bindOf, memberOf, groupNamed}
 use Rattle.rules.specs.Faults.{addFault}
 use Rattle.rules.specs.Sessions.{inSession, alters, closing}
-use Rattle.rules.specs.Commands.{roomIn, addition, naming, opening, creation, newGroup, row, rightsFit, payloadFits, judge}
+use Rattle.rules.specs.Commands.{roomIn, addition, naming, opening, creation, newGroup, row, rightsFit, judge}
 use Rattle.rules.specs.History.{Entry, Entries, hasPage, silence, groupSaid, lines}
 use Rattle.rules.proofs.Lists.{never, split, join, pass, any-weaken, any-with}
 use Rattle.rules.proofs.Frames.{also-all, also-both}
@@ -26,43 +24,12 @@ use Rattle.rules.proofs.Numbers.{bind-said, group-said, member-said, bi
 use Rattle.rules.proofs.Changes.{Storable, New, spares}
 use Rattle.rules.proofs.Distinct.{lone}
 use Rattle.rules.proofs.Fresh.{new-low, new-high, new-fresh}
+use Rattle.rules.proofs.Judged.{invalid, full, Passed, passed}
 use Rattle.rules.proofs.Faults.{meets, by-fields, fits-all}
 use Rattle.rules.proofs.Kept.{Sane, InOrder, Ok, order-none, order-wipe, sound-at, whole-at, bind-kept, member-kept, session-kept, ok-nothing}
 use Rattle.rules.proofs.Standing.{Says, says-nothing, says-stored, says-withdrawn}
 use Rattle.rules.proofs.Stored.{Stored, bind-stored, member-stored, named-small, group-stored, group-meets, device-high, session-stored, session-key}
 use Rattle.rules.proofs.Stored.{session-device, source-flag}
-
--- no other code is 0x00
-not-ok : (n : ℕ) → (n ≡ 0 → ⊥) → code n ≡ ok → ⊥
-not-ok n z e = z (ap (λ (c : Code). c .0) e)
-
-pub invalid : invalidArgument ≡ ok → ⊥
-invalid = not-ok 0x02 (λ z. omega arith)
-
-full : notEnoughResources ≡ ok → ⊥
-full = not-ok 0xFE (λ z. omega arith)
-
-pub unauthorized : notAuthorized ≡ ok → ⊥
-unauthorized = not-ok 0x01 (λ z. omega arith)
-
-pub no-session : noReadSession ≡ ok → ⊥
-no-session = not-ok 0x20 (λ z. omega arith)
-
--- The checks that a command answered 0x00 passed
-
-pub record Passed (T : Tables) (s : DeviceAddress) (k : Command) (p : List ℕ) : Type 0 where
-  pub rights : rightsFit (T Devices) s k ≡ true
-  pub length : length p ≡ row k .length p
-  pub fault : faultless (row k .fault T p) ≡ true
-  pub verdict : row k .verdict T s p ≡ ok
-
-pub passed : (T : Tables) (s : DeviceAddress) (k : Command) (p : List ℕ) → judge T s k p ≡ ok → Passed T s k p
-unfolding judge payloadFits
-passed T s k p j =
-    let a = pass unauthorized j in
-    let b = pass invalid a.1 in
-    let c = pass invalid b.1 in
-    record { rights = a.0; length = eqb-true (length p) (row k .length p) b.0; fault = c.0; verdict = c.1 }
 
 -- What a call does is what the history says of it
 

@@ -1,7 +1,7 @@
 -- Soundness (document 01, Tables) and "every element of a table is an octet" are kept by every change that is in order.
 use Rattle.words.specs.Basics.{_≡_, refl, ap, _∙_, Bool, true, false, cond, not, _||_, List, ℕ, _%_, eqb, length, eqb-true}
 use Rattle.rules.specs.Types.{DeviceAddress, GroupAddress, Kind, Devices, Binds, Groups, Members, Sessions}
-use Rattle.rules.specs.Lists.{any, all, _&_}
+use Rattle.rules.specs.Lists.{any, all}
 use Rattle.rules.specs.Octets.{octetString}
 use Rattle.rules.specs.Tables.{Rec, records, used, addressed, Change, none, wipe, change}
 use Rattle.rules.specs.Layout.{size, most, key, bindSource, bindSourceUnit, fromAnyDevice, fromAnyUnit, toGroup, boundGroup, boundDevice, bindUnit}

@@ -13,6 +13,7 @@ pub mod Faults
 pub mod Kept
 pub mod Standing
 pub mod Stored
+pub mod Judged
 pub mod Granted
 pub mod Hosted
 pub mod Shuts

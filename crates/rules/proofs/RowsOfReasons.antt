@@ -32,15 +32,15 @@ reasons =
 abbrev gives : ℕ → List ℕ → Row Sent Answer
 gives reason p = faulty reason (house a) p
 
--- one fault alone
+-- one fault alone, where that can be: a device that is not there has no unit either
 abbrev pub each-reason : List (Row Sent Answer)
 each-reason =
     gives 1 (run 7 0x00_03_01_82_00_00_04)
     ∷ gives 1 (run 9 0x00_03_01_82_00_00_05_01_00)
     ∷ gives 1 []
-    ∷ gives 2 (run 8 0x00_06_00_82_00_00_04_02)
+    ∷ gives 2 (run 8 0x00_06_FF_82_00_00_04_02)
     ∷ gives 3 (run 8 0x00_03_03_82_00_00_04_02)
-    ∷ gives 4 (run 8 0x00_03_01_82_00_00_04_FF)
+    ∷ gives 4 (run 8 0x00_03_01_82_00_80_01_FF)
     ∷ gives 5 (run 8 0x00_03_01_82_00_00_06_00)
     ∷ gives 6 (run 8 0x00_03_01_82_00_00_04_03)
     ∷ gives 7 (run 8 0x00_03_01_82_00_80_03_00)
@@ -74,21 +74,21 @@ first-given =
     ++ map (λ p. gives 5 (run 8 p)) (0x00_03_01_82_00_00_06_09 ∷ 0x7F_FF_01_82_00_7F_FF_01 ∷ [])
     -- 6 and 7, 7 and 8 exclude each other: a destination is a unit or a group. A unit that is not there, whose device's number is no group's; a group that is
     -- not there, whose number and unit are the source's, a device's, and no device's
-    ++ gives 6 (run 8 0x00_03_01_82_00_00_04_03)
+    ++ gives 6 (run 8 0x00_03_01_82_00_00_05_02)
     ∷ map (λ p. gives 7 (run 8 p)) (0x00_03_01_82_00_80_03_01 ∷ 0x00_03_01_82_00_80_04_02 ∷ 0x00_03_01_82_00_80_06_00 ∷ [])
 
 -- No bind of sound tables has a fault, so that 8 and 9 do not meet there; the chain by itself, of a bind that would be there, gives the first
 
 pub record Asked : Type 0 where
-  pub long : Bool
+  pub whole : Bool
   pub bind : ℕ
   pub new : Bool
 
 abbrev asked : Bool → ℕ → Bool → Asked
-asked l b n = record { long = l; bind = b; new = n }
+asked w b n = record { whole = w; bind = b; new = n }
 
 abbrev pub faultOf : Asked → Reason
-faultOf x = fault (x .long) (tables plain Devices) (tables plain Groups) (run 8 (x .bind)) (x .new)
+faultOf x = fault (x .whole) (tables plain Devices) (tables plain Groups) (run 8 (x .bind)) (x .new)
 
 abbrev pub first-of-two : List (Row Asked Reason)
 first-of-two =

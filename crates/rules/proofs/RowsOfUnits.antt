@@ -8,7 +8,8 @@ use Rattle.rules.specs.Carry.{CarryAnswer, carryAnswer, carryOver}
 use Rattle.rules.specs.History.{Call, admits, releases, history, existing}
 use Rattle.rules.proofs.Samples.{Row, row, run, lending, filled, units, only-zero, zero-to-one, zero-to-254, valance, valance-without-zero, with-255}
 use Rattle.rules.proofs.Samples.{known, device-table, D3, named, holding}
-use Rattle.rules.proofs.Samples.{three-one, curtains, bindManagement, groupManagement, letter, request, Sent, sent, unchanged, goes, grants, code, faulty}
+use Rattle.rules.proofs.Samples.{three-one, curtains, bindManagement, groupManagement, letter, request, Sent, sent, unchanged, goes, grants, code}
+use Rattle.rules.proofs.Samples.{faulty}
 
 -- A house with gaps: device 3, with rights, has units 0 to 2; device 6, the valance, has 0, 1, 2 and 9; device 7 has 0, 7, 8, 16, 100, 248 and 254
 

@@ -8,8 +8,8 @@ use Rattle.rules.specs.Lists.{all}
 use Rattle.rules.specs.Frame.{Lent}
 use Rattle.rules.specs.Host.{HostAnswer, admit, release}
 use Rattle.rules.specs.Calls.{Answer, explaining, message}
-use Rattle.rules.specs.History.{Call, sends, admits, releases, Said, saidBy, saidByHost, said, left, after, Event, history, octetsOnly, granted, standing, memberCount}
-use Rattle.rules.specs.History.{freeTables}
+use Rattle.rules.specs.History.{Call, sends, admits, releases, Said, saidBy, saidByHost, said, left, after, Event, history, octetsOnly, granted}
+use Rattle.rules.specs.History.{standing, memberCount, freeTables}
 use Rattle.rules.specs.Sheet.{bindCount, entriesRead}
 use Rattle.rules.specs.Seen.{Contract, Seen, begins, goes-on, calls, SeenHolds, SeenReads}
 use Rattle.rules.proofs.Run.{same-room, held-run}

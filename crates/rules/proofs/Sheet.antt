@@ -1,7 +1,7 @@
 -- What is read back is the sheet: after any run, a granted Start counts the binds that stand by history, and a granted read gives those of them that it
 -- asks for, each once, as long as its session was not started anew.
 use lib.Seq.{take-at}
-use Rattle.words.specs.Basics.{_≡_, refl, sym, ap, _∙_, true, List, [], _∷_, _++_, ℕ, suc, _+_, _*_, _≤_, min, arith, length, take, drop, eqb-true}
+use Rattle.words.specs.Basics.{_≡_, refl, sym, ap, _∙_, true, List, [], _∷_, _++_, ℕ, suc, _+_, _*_, _≤_, min, arith, length, take, drop}
 use Rattle.words.specs.Basics.{not, _&&_, take-all, drop-drop, drop-of-length-le, take-append-drop}
 use Rattle.words.specs.Names.{ok}
 use Rattle.rules.specs.Types.{DeviceAddress, BindPart, StartSession, GetEntries, Filter, Index, Part, Binds, Sessions}
@@ -24,7 +24,7 @@ use Rattle.rules.proofs.Numbers.{bind-named}
 use Rattle.rules.proofs.Changes.{all-used, shaped-records}
 use Rattle.rules.proofs.Kept.{Sane, sound-at}
 use Rattle.rules.proofs.Standing.{Agree}
-use Rattle.rules.proofs.Granted.{no-session, passed}
+use Rattle.rules.proofs.Judged.{no-session, passed}
 use Rattle.rules.proofs.Entries.{within-all, within-keep, within-take, within-distinct, entries-by}
 use Rattle.rules.proofs.Steps.{Reply, granted-reply, octets-payload}
 use Rattle.rules.proofs.Run.{held-run}

@@ -1,8 +1,8 @@
 -- The commands (document 01, Commands and codes): a row for each, with its checks and codes in the paper's order, what it changes, and what its
 -- reply has behind 0x00.
 use Rattle.words.specs.Basics.{Bool, true, false, cond, not, _||_, List, [], _∷_, _++_, ℕ, zero, suc, _+_, eqb, leb, length}
-use Rattle.words.specs.Reasons.{faultless}
 use Rattle.words.specs.Names.{ok, notAuthorized, invalidArgument, noReadSession, notEnoughResources, unknownReason, group, lowest}
+use Rattle.words.specs.Reasons.{faultless}
 use Rattle.rules.specs.Types.{DeviceAddress, GroupAddress, Code, Reason, NoFault, Command, AddBind, RemoveBinds, StartSession, EndSession, GetEntries}
 use Rattle.rules.specs.Types.{CreateGroup, DeleteGroup, AddToGroup, RemoveFromGroup, GetGroupInfo, Devices, Binds, Groups, Members, Sessions}
 use Rattle.rules.specs.Lists.{any, firstOf, ask}

@@ -1,8 +1,6 @@
 -- `faults::unit_fault` meets its contract. A unit that is there needs no second look.
-use Rattle.words.specs.Basics.{sym, _∙_, now, needs}
-use Rattle.rules.specs.Types.{Devices}
+use Rattle.words.specs.Basics.{sym, _∙_, needs}
 use Rattle.rules.specs.Lists.{ask}
-use Rattle.rules.specs.Frame.{table}
 use Rattle.faults.specs.Parts.{unitFault}
 use Rattle.faults.proofs.Chain.{of-device}
 use Rattle.faults.proofs.unit_fault.Statement.{statement}
