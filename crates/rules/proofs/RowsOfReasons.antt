@@ -62,7 +62,7 @@ first-given =
     map (λ p. gives 1 (run 9 p))
     (0x00_06_00_82_00_00_04_02_00 ∷ 0x00_03_03_82_00_00_04_02_00 ∷ 0x00_03_01_82_00_00_04_FF_00 ∷ 0x00_03_01_82_00_00_06_00_00
     ∷ 0x00_03_01_82_00_00_04_03_00 ∷ 0x00_03_01_82_00_80_03_00_00 ∷ 0x00_03_01_82_00_00_03_01_00 ∷ 0x00_03_01_82_00_00_04_02_00 ∷ [])
-    -- 2 and 3: a device that is not there has no unit either, and none of those behind
+    -- 2 and 3: a device that is not there has no unit either; 2 and each of those behind
     ++ map (λ p. gives 2 (run 8 p))
     (0x00_06_09_82_00_00_04_02 ∷ 0x00_06_09_82_00_00_04_FF ∷ 0x00_06_00_82_00_00_06_00 ∷ 0x00_06_00_82_00_00_04_03 ∷ 0x00_06_00_82_00_80_03_00 ∷ [])
     -- 3 and 4, 3 and those behind
