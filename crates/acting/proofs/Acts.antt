@@ -1,5 +1,5 @@
 -- Laws of a command's own part: what a handler's answer makes of the tables and the reply.
-use Rattle.words.specs.Basics.{◌≡◌, refl, sym, ap, ◌∙◌, Bool, true, false, cond, List, [], ◌∷◌, ℕ, eqb, length, needs}
+use Rattle.words.specs.Basics.{◌≡◌, refl, sym, ap, ◌∙◌, Bool, true, false, cond, List, [], ◌∷◌, ℕ, eqb, length, rules}
 use Rattle.words.specs.Names.{ok}
 use Rattle.rules.specs.Types.{DeviceAddress, Code, Command, StartSession, GetEntries, Filter, CreateGroup, DeleteGroup, GetGroupInfo, Kind, Binds}
 use Rattle.rules.specs.Types.{Groups, Members, Sessions}
@@ -179,7 +179,7 @@ pub acts_on_sessions : ActsOn Sessions
 acts_on_sessions = acts_on Sessions
 
 pub ruleset arms = (
-  needs,
+  rules,
   some-room,
   asked-length,
   whole-binds,

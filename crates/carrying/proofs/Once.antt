@@ -3,7 +3,7 @@ use contract.Lifetimes.{Lfts}
 use borrow.Fn.World
 use borrow.Fn.Kinds as K
 use denote.Triple.Clauses
-use Rattle.words.specs.Basics.{◌≡◌, sym, ◌∙◌, now}
+use Rattle.words.specs.Basics.{◌≡◌, sym, ◌∙◌}
 use Rattle.rules.specs.Carry.{CarryAnswer, carry_answer}
 use Rattle.carrying.specs.contracts.carry_over
 use Rattle.carrying.proofs.carry_over.Kinds as kinds
@@ -12,7 +12,7 @@ use Rattle.carrying.proofs.carry_over.Reads as reads
 -- what the call answers, and the new table as it is at exit
 module _ (κs : Lfts (carry_over.signature).lifetimes) (a : World.ArgsD carry_over.signature κs) where
   abbrev pub carry_over-answer : World.ResD carry_over.signature κs → Clauses.AtExit (K.ended_of _ kinds.ps kinds.r) κs → CarryAnswer
-  carry_over-answer r s = carry_answer r (now s.1.0)
+  carry_over-answer r s = carry_answer r s.1.0.now
 
   pub carry_over-once : (r r' : World.ResD carry_over.signature κs) (s s' : Clauses.AtExit (K.ended_of _ kinds.ps kinds.r) κs)
       → reads.Post κs a r s → reads.Post κs a r' s' → carry_over-answer r s ≡ carry_over-answer r' s'

@@ -3,7 +3,7 @@ use contract.Lifetimes.{Lfts}
 use borrow.Fn.World
 use borrow.Fn.Kinds as K
 use denote.Triple.Clauses
-use Rattle.words.specs.Basics.{◌≡◌, sym, ◌∙◌, now}
+use Rattle.words.specs.Basics.{◌≡◌, sym, ◌∙◌}
 use Rattle.rules.specs.Copy.{copy_answer}
 use Rattle.copying.specs.contracts.copy
 use Rattle.copying.proofs.copy.Kinds as copy-kinds
@@ -11,5 +11,5 @@ use Rattle.copying.proofs.copy.Reads as copy-reads
 
 pub copy-once : (κs : Lfts 2) (a : World.ArgsD copy.signature κs) (r r' : World.ResD copy.signature κs)
     (s s' : Clauses.AtExit (K.ended_of 2 copy-kinds.ps copy-kinds.r) κs)
-    → copy-reads.Post κs a r s → copy-reads.Post κs a r' s' → copy_answer r (now s.1.0) ≡ copy_answer r' (now s'.1.0)
+    → copy-reads.Post κs a r s → copy-reads.Post κs a r' s' → copy_answer r s.1.0.now ≡ copy_answer r' s'.1.0.now
 copy-once κs a r r' s s' p q = p ∙ sym q

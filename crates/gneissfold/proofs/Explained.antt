@@ -4,7 +4,7 @@ use contract.Lifetimes.{Lfts}
 use borrow.Fn.World
 use borrow.Fn.Kinds as K
 use denote.Triple.Clauses
-use Rattle.words.specs.Basics.{◌≡◌, sym, ap, ◌∙◌, true, false, List, ℕ, eqb, now}
+use Rattle.words.specs.Basics.{◌≡◌, sym, ap, ◌∙◌, true, false, List, ℕ, eqb}
 use Rattle.words.specs.Reasons.{faultless}
 use Rattle.words.specs.declared.Decoded.TheVariants.{Is}
 use Rattle.rules.specs.Types.{AddBind}
@@ -25,7 +25,7 @@ module _ (κs : Lfts (gneissfold_message.signature).lifetimes) (a : World.ArgsD 
   t = message_tells κs a r s
 
   abbrev msg : List ℕ
-  msg = now a.1.1.1.1.1.0
+  msg = a.1.1.1.1.1.0.now
 
   pub reason-given : command (fields msg) ≡ Is AddBind → refused t ≡ true → eqb t.reason 0 ≡ false
   unfolding refused refused_by faultless

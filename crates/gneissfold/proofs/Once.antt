@@ -3,7 +3,7 @@ use contract.Lifetimes.{Lfts}
 use borrow.Fn.World
 use borrow.Fn.Kinds as K
 use denote.Triple.Clauses
-use Rattle.words.specs.Basics.{◌≡◌, sym, ◌∙◌, now}
+use Rattle.words.specs.Basics.{◌≡◌, sym, ◌∙◌}
 use Rattle.rules.specs.Frame.{lent}
 use Rattle.gneissfold.specs.Numbers.{MessageTold, message_told, HostTold, host_told, CarryTold, carry_told, CopyTold, copy_told, ReadTold, read_told}
 use Rattle.gneissfold.specs.contracts.gneissfold_message
@@ -28,29 +28,29 @@ use Rattle.gneissfold.proofs.gneissfold_read.Reads as read-reads
 -- what a call tells and leaves: its number, what is lent to be written as it is at exit, the rest as it was lent
 abbrev pub message_tells : (κs : Lfts (gneissfold_message.signature).lifetimes) (a : World.ArgsD gneissfold_message.signature κs)
     (r : World.ResD gneissfold_message.signature κs) (s : Clauses.AtExit (K.ended_of _ message-kinds.ps message-kinds.r) κs) → MessageTold
-message_tells κs a r s = message_told r (now s.1.1.1.1.1.1.1.1.0) (now s.1.1.1.1.1.1.1.1.1.0) (now s.1.1.1.1.1.1.1.1.1.1.0)
-    (lent (now s.0) (now s.1.0) (now s.1.1.0) (now s.1.1.1.0) (now s.1.1.1.1.0))
-    (now s.1.1.1.1.1.1.0) (now s.1.1.1.1.1.1.1.0)
+message_tells κs a r s = message_told r s.1.1.1.1.1.1.1.1.0.now s.1.1.1.1.1.1.1.1.1.0.now s.1.1.1.1.1.1.1.1.1.1.0.now
+    (lent s.0.now s.1.0.now s.1.1.0.now s.1.1.1.0.now s.1.1.1.1.0.now)
+    s.1.1.1.1.1.1.0.now s.1.1.1.1.1.1.1.0.now
 
 abbrev pub admit_tells : (κs : Lfts (gneissfold_admit.signature).lifetimes) (a : World.ArgsD gneissfold_admit.signature κs)
     (r : World.ResD gneissfold_admit.signature κs) (s : Clauses.AtExit (K.ended_of _ admit-kinds.ps admit-kinds.r) κs) → HostTold
-admit_tells κs a r s = host_told r (lent (now s.0) (now a.1.0) (now a.1.1.0) (now a.1.1.1.0) (now a.1.1.1.1.0))
+admit_tells κs a r s = host_told r (lent s.0.now a.1.0.now a.1.1.0.now a.1.1.1.0.now a.1.1.1.1.0.now)
 
 abbrev pub release_tells : (κs : Lfts (gneissfold_release.signature).lifetimes) (a : World.ArgsD gneissfold_release.signature κs)
     (r : World.ResD gneissfold_release.signature κs) (s : Clauses.AtExit (K.ended_of _ release-kinds.ps release-kinds.r) κs) → HostTold
-release_tells κs a r s = host_told r (lent (now s.0) (now s.1.0) (now a.1.1.0) (now s.1.1.1.0) (now s.1.1.1.1.0))
+release_tells κs a r s = host_told r (lent s.0.now s.1.0.now a.1.1.0.now s.1.1.1.0.now s.1.1.1.1.0.now)
 
 abbrev carry_tells : (κs : Lfts 2) (a : World.ArgsD gneissfold_carry_over.signature κs) (r : World.ResD gneissfold_carry_over.signature κs)
     (s : Clauses.AtExit (K.ended_of 2 carry-kinds.ps carry-kinds.r) κs) → CarryTold
-carry_tells κs a r s = carry_told r (now s.1.0)
+carry_tells κs a r s = carry_told r s.1.0.now
 
 abbrev copy_tells : (κs : Lfts 3) (a : World.ArgsD gneissfold_copy.signature κs) (r : World.ResD gneissfold_copy.signature κs)
     (s : Clauses.AtExit (K.ended_of 3 copy-kinds.ps copy-kinds.r) κs) → CopyTold
-copy_tells κs a r s = copy_told r (now s.1.1.1.1.0) (now s.1.0)
+copy_tells κs a r s = copy_told r s.1.1.1.1.0.now s.1.0.now
 
 abbrev read_tells : (κs : Lfts 2) (a : World.ArgsD gneissfold_read.signature κs) (r : World.ResD gneissfold_read.signature κs)
     (s : Clauses.AtExit (K.ended_of 2 read-kinds.ps read-kinds.r) κs) → ReadTold
-read_tells κs a r s = read_told r (now s.1.0)
+read_tells κs a r s = read_told r s.1.0.now
 
 pub message-once : (κs : Lfts (gneissfold_message.signature).lifetimes) (a : World.ArgsD gneissfold_message.signature κs)
     (r r' : World.ResD gneissfold_message.signature κs) (s s' : Clauses.AtExit (K.ended_of _ message-kinds.ps message-kinds.r) κs)

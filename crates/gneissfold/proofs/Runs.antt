@@ -5,7 +5,7 @@ use contract.Lifetimes.{Lfts}
 use borrow.Fn.World
 use borrow.Fn.Kinds as K
 use denote.Triple.Clauses
-use Rattle.words.specs.Basics.{◌≡◌, true, List, now}
+use Rattle.words.specs.Basics.{◌≡◌, true, List}
 use Rattle.words.specs.Names.{device}
 use Rattle.rules.specs.Lists.{all}
 use Rattle.rules.specs.Frame.{Lent, lent}
@@ -29,21 +29,21 @@ use Rattle.gneissfold.proofs.gneissfold_release.Reads as release-reads
 
 module _ (κs : Lfts (gneissfold_message.signature).lifetimes) (a : World.ArgsD gneissfold_message.signature κs) where
   abbrev message-lent : Lent
-  message-lent = lent (now a.0) (now a.1.0) (now a.1.1.0) (now a.1.1.1.0) (now a.1.1.1.1.0)
+  message-lent = lent a.0.now a.1.0.now a.1.1.0.now a.1.1.1.0.now a.1.1.1.1.0.now
 
   abbrev message-call : Call
-  message-call = sends (now a.1.1.1.1.1.0) (now a.1.1.1.1.1.1.0) (now a.1.1.1.1.1.1.1.0)
+  message-call = sends a.1.1.1.1.1.0.now a.1.1.1.1.1.1.0.now a.1.1.1.1.1.1.1.0.now
 
 module _ (κs : Lfts (gneissfold_admit.signature).lifetimes) (a : World.ArgsD gneissfold_admit.signature κs) where
   abbrev admit-lent : Lent
-  admit-lent = lent (now a.0) (now a.1.0) (now a.1.1.0) (now a.1.1.1.0) (now a.1.1.1.1.0)
+  admit-lent = lent a.0.now a.1.0.now a.1.1.0.now a.1.1.1.0.now a.1.1.1.1.0.now
 
   abbrev admit-call : Call
-  admit-call = admits (device a.1.1.1.1.1.0) a.1.1.1.1.1.1.0 (now a.1.1.1.1.1.1.1.0)
+  admit-call = admits (device a.1.1.1.1.1.0) a.1.1.1.1.1.1.0 a.1.1.1.1.1.1.1.0.now
 
 module _ (κs : Lfts (gneissfold_release.signature).lifetimes) (a : World.ArgsD gneissfold_release.signature κs) where
   abbrev release-lent : Lent
-  release-lent = lent (now a.0) (now a.1.0) (now a.1.1.0) (now a.1.1.1.0) (now a.1.1.1.1.0)
+  release-lent = lent a.0.now a.1.0.now a.1.1.0.now a.1.1.1.0.now a.1.1.1.1.0.now
 
   abbrev release-call : Call
   release-call = releases (device a.1.1.1.1.1.0)

@@ -3,7 +3,7 @@ use contract.Lifetimes.{Lfts}
 use borrow.Fn.World
 use borrow.Fn.Kinds as K
 use denote.Triple.Clauses
-use Rattle.words.specs.Basics.{◌≡◌, sym, ◌∙◌, now}
+use Rattle.words.specs.Basics.{◌≡◌, sym, ◌∙◌}
 use Rattle.rules.specs.Frame.{lent}
 use Rattle.index_rules.specs.Calls.{Indexed, indexed}
 use Rattle.gneissfold.specs.Numbers.{MessageTold, message_told, HostTold, host_told}
@@ -20,9 +20,9 @@ module _ (κs : Lfts (gneissfold_indexed_message.signature).lifetimes) (a : Worl
   abbrev pub message_tells : World.ResD gneissfold_indexed_message.signature κs → Clauses.AtExit (K.ended_of _ message-kinds.ps message-kinds.r) κs
       → Indexed MessageTold
   message_tells r s =
-      indexed (message_told r (now s.1.1.1.1.1.1.1.1.1.0) (now s.1.1.1.1.1.1.1.1.1.1.0) (now s.1.1.1.1.1.1.1.1.1.1.1.0)
-      (lent (now s.0) (now s.1.0) (now s.1.1.0) (now s.1.1.1.0) (now s.1.1.1.1.0))
-      (now s.1.1.1.1.1.1.1.0) (now s.1.1.1.1.1.1.1.1.0)) (now s.1.1.1.1.1.0)
+      indexed (message_told r s.1.1.1.1.1.1.1.1.1.0.now s.1.1.1.1.1.1.1.1.1.1.0.now s.1.1.1.1.1.1.1.1.1.1.1.0.now
+      (lent s.0.now s.1.0.now s.1.1.0.now s.1.1.1.0.now s.1.1.1.1.0.now)
+      s.1.1.1.1.1.1.1.0.now s.1.1.1.1.1.1.1.1.0.now) s.1.1.1.1.1.0.now
 
   pub message-once : (r r' : World.ResD gneissfold_indexed_message.signature κs) (s s' : Clauses.AtExit (K.ended_of _ message-kinds.ps message-kinds.r) κs)
       → message-reads.Post κs a r s → message-reads.Post κs a r' s' → message_tells r s ≡ message_tells r' s'
@@ -32,7 +32,7 @@ module _ (κs : Lfts (gneissfold_indexed_release.signature).lifetimes) (a : Worl
   abbrev pub release_tells : World.ResD gneissfold_indexed_release.signature κs → Clauses.AtExit (K.ended_of _ release-kinds.ps release-kinds.r) κs
       → Indexed HostTold
   release_tells r s =
-      indexed (host_told r (lent (now s.0) (now s.1.0) (now a.1.1.0) (now s.1.1.1.0) (now s.1.1.1.1.0))) (now s.1.1.1.1.1.0)
+      indexed (host_told r (lent s.0.now s.1.0.now a.1.1.0.now s.1.1.1.0.now s.1.1.1.1.0.now)) s.1.1.1.1.1.0.now
 
   pub release-once : (r r' : World.ResD gneissfold_indexed_release.signature κs) (s s' : Clauses.AtExit (K.ended_of _ release-kinds.ps release-kinds.r) κs)
       → release-reads.Post κs a r s → release-reads.Post κs a r' s' → release_tells r s ≡ release_tells r' s'

@@ -5,7 +5,7 @@ use contract.Lifetimes.{Lfts}
 use borrow.Fn.World
 use borrow.Fn.Kinds as K
 use denote.Triple.Clauses
-use Rattle.words.specs.Basics.{◌≡◌, refl, ap, ◌∙◌, true, List, now}
+use Rattle.words.specs.Basics.{◌≡◌, refl, ap, ◌∙◌, true, List}
 use Rattle.words.specs.Names.{device}
 use Rattle.words.specs.Outcomes.{value_of}
 use Rattle.rules.specs.Lists.{all}
@@ -36,15 +36,15 @@ use Rattle.gneissfold_indexed.proofs.gneissfold_indexed_release.Reads as release
 module _ (κs : Lfts (gneissfold_indexed_message.signature).lifetimes) (a : World.ArgsD gneissfold_indexed_message.signature κs) where
   abbrev message-lent : Hub
   message-lent =
-      indexed (lent (now a.0) (now a.1.0) (now a.1.1.0) (now a.1.1.1.0) (now a.1.1.1.1.0)) (now a.1.1.1.1.1.0)
+      indexed (lent a.0.now a.1.0.now a.1.1.0.now a.1.1.1.0.now a.1.1.1.1.0.now) a.1.1.1.1.1.0.now
 
   abbrev message-call : Call
-  message-call = sends (now a.1.1.1.1.1.1.0) (now a.1.1.1.1.1.1.1.0) (now a.1.1.1.1.1.1.1.1.0)
+  message-call = sends a.1.1.1.1.1.1.0.now a.1.1.1.1.1.1.1.0.now a.1.1.1.1.1.1.1.1.0.now
 
 module _ (κs : Lfts (gneissfold_indexed_release.signature).lifetimes) (a : World.ArgsD gneissfold_indexed_release.signature κs) where
   abbrev release-lent : Hub
   release-lent =
-      indexed (lent (now a.0) (now a.1.0) (now a.1.1.0) (now a.1.1.1.0) (now a.1.1.1.1.0)) (now a.1.1.1.1.1.0)
+      indexed (lent a.0.now a.1.0.now a.1.1.0.now a.1.1.1.0.now a.1.1.1.1.0.now) a.1.1.1.1.1.0.now
 
   abbrev release-call : Call
   release-call = releases (device a.1.1.1.1.1.1.0)

@@ -133,5 +133,5 @@ module _ (L : Lent) (d : DeviceAddress) where
     release-unsound s = rw (failed e s)
 
     pub release-sound : not b ≡ false → settled (releasing (tables L) d) L (dismissal (tables L Devices) d) ≡ release L d
-    unfolding release ask
+    unfolding release dismissal ask
     release-sound s = rw (passed e s)

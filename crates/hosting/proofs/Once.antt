@@ -3,7 +3,7 @@ use contract.Lifetimes.{Lfts}
 use borrow.Fn.World
 use borrow.Fn.Kinds as K
 use denote.Triple.Clauses
-use Rattle.words.specs.Basics.{◌≡◌, sym, ◌∙◌, now}
+use Rattle.words.specs.Basics.{◌≡◌, sym, ◌∙◌}
 use Rattle.rules.specs.Frame.{lent}
 use Rattle.rules.specs.Host.{HostAnswer, host_answer}
 use Rattle.hosting.specs.contracts.admit
@@ -17,7 +17,7 @@ use Rattle.hosting.proofs.release.Reads as release-reads
 
 module _ (κs : Lfts (admit.signature).lifetimes) (a : World.ArgsD admit.signature κs) where
   abbrev pub admit-answer : World.ResD admit.signature κs → Clauses.AtExit (K.ended_of _ admit-kinds.ps admit-kinds.r) κs → HostAnswer
-  admit-answer r s = host_answer r (lent (now s.0) (now a.1.0) (now a.1.1.0) (now a.1.1.1.0) (now a.1.1.1.1.0))
+  admit-answer r s = host_answer r (lent s.0.now a.1.0.now a.1.1.0.now a.1.1.1.0.now a.1.1.1.1.0.now)
 
   pub admit-once : (r r' : World.ResD admit.signature κs) (s s' : Clauses.AtExit (K.ended_of _ admit-kinds.ps admit-kinds.r) κs)
       → admit-reads.Post κs a r s → admit-reads.Post κs a r' s' → admit-answer r s ≡ admit-answer r' s'
@@ -25,7 +25,7 @@ module _ (κs : Lfts (admit.signature).lifetimes) (a : World.ArgsD admit.signatu
 
 module _ (κs : Lfts (release.signature).lifetimes) (a : World.ArgsD release.signature κs) where
   abbrev pub release-answer : World.ResD release.signature κs → Clauses.AtExit (K.ended_of _ release-kinds.ps release-kinds.r) κs → HostAnswer
-  release-answer r s = host_answer r (lent (now s.0) (now s.1.0) (now a.1.1.0) (now s.1.1.1.0) (now s.1.1.1.1.0))
+  release-answer r s = host_answer r (lent s.0.now s.1.0.now a.1.1.0.now s.1.1.1.0.now s.1.1.1.1.0.now)
 
   pub release-once : (r r' : World.ResD release.signature κs) (s s' : Clauses.AtExit (K.ended_of _ release-kinds.ps release-kinds.r) κs)
       → release-reads.Post κs a r s → release-reads.Post κs a r' s' → release-answer r s ≡ release-answer r' s'

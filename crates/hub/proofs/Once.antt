@@ -3,7 +3,7 @@ use contract.Lifetimes.{Lfts}
 use borrow.Fn.World
 use borrow.Fn.Kinds as K
 use denote.Triple.Clauses
-use Rattle.words.specs.Basics.{◌≡◌, sym, ◌∙◌, now}
+use Rattle.words.specs.Basics.{◌≡◌, sym, ◌∙◌}
 use Rattle.rules.specs.Frame.{lent}
 use Rattle.rules.specs.Calls.{Answer, explaining}
 use Rattle.hub.specs.contracts.message
@@ -14,8 +14,8 @@ use Rattle.hub.proofs.message.Reads as message-reads
 abbrev pub message-answer : (κs : Lfts (message.signature).lifetimes) (r : World.ResD message.signature κs)
     (s : Clauses.AtExit (K.ended_of _ message-kinds.ps message-kinds.r) κs) → Answer
 message-answer κs r s =
-    explaining r.outcome r.reason (lent (now s.0) (now s.1.0) (now s.1.1.0) (now s.1.1.1.0) (now s.1.1.1.1.0))
-    (now s.1.1.1.1.1.1.0) (now s.1.1.1.1.1.1.1.0)
+    explaining r.outcome r.reason (lent s.0.now s.1.0.now s.1.1.0.now s.1.1.1.0.now s.1.1.1.1.0.now)
+    s.1.1.1.1.1.1.0.now s.1.1.1.1.1.1.1.0.now
 
 pub message-once : (κs : Lfts (message.signature).lifetimes) (a : World.ArgsD message.signature κs) (r r' : World.ResD message.signature κs)
     (s s' : Clauses.AtExit (K.ended_of _ message-kinds.ps message-kinds.r) κs)

@@ -4,7 +4,7 @@ use contract.Lifetimes.{Lfts}
 use borrow.Fn.World
 use borrow.Fn.Kinds as K
 use denote.Triple.Clauses
-use Rattle.words.specs.Basics.{◌≡◌, sym, ap, ◌∙◌, List, ℕ, ◌-◌, take, now}
+use Rattle.words.specs.Basics.{◌≡◌, sym, ap, ◌∙◌, List, ℕ, ◌-◌, take}
 use Rattle.words.specs.Names.{header_length}
 use Rattle.rules.specs.Types.{Done}
 use Rattle.rules.specs.Frame.{Lent, lent}
@@ -22,10 +22,10 @@ use Rattle.hub.proofs.read.Reads as read-reads
 module _ (κs : Lfts (message.signature).lifetimes) (a : World.ArgsD message.signature κs) (r : World.ResD message.signature κs)
     (s : Clauses.AtExit (K.ended_of _ message-kinds.ps message-kinds.r) κs) (p : message-reads.Post κs a r s) (n : ℕ) (e : r.outcome ≡ Done n) where
   abbrev tables : Lent
-  tables = lent (now a.0) (now a.1.0) (now a.1.1.0) (now a.1.1.1.0) (now a.1.1.1.1.0)
+  tables = lent a.0.now a.1.0.now a.1.1.0.now a.1.1.1.0.now a.1.1.1.1.0.now
 
   abbrev msg : List ℕ
-  msg = now a.1.1.1.1.1.0
+  msg = a.1.1.1.1.1.0.now
 
   abbrev written : List ℕ
   written = (message-answer κs r s).reply
@@ -33,9 +33,9 @@ module _ (κs : Lfts (message.signature).lifetimes) (a : World.ArgsD message.sig
   pub replied : Replied tables msg written n
   replied =
       rw (ap (λ (x : Answer). x.reply) p)
-      (reply_again tables msg (now a.1.1.1.1.1.1.0) (now a.1.1.1.1.1.1.1.0) n (sym (ap (λ (x : Answer). x.outcome) p) ∙ e))
+      (reply_again tables msg a.1.1.1.1.1.1.0.now a.1.1.1.1.1.1.1.0.now n (sym (ap (λ (x : Answer). x.outcome) p) ∙ e))
 
   pub read_again : (κ : Lfts (read.signature).lifetimes) (b : World.ArgsD read.signature κ) (q : World.ResD read.signature κ)
-      (t : Clauses.AtExit (K.ended_of _ read-kinds.ps read-kinds.r) κ) → now b.0 ≡ take n written → read-reads.Post κ b q t
+      (t : Clauses.AtExit (K.ended_of _ read-kinds.ps read-kinds.r) κ) → b.0.now ≡ take n written → read-reads.Post κ b q t
       → q ≡ reading_of (Done 0) (answering (fields msg) (n - header_length))
   read_again κ b q t m w = w ∙ ap reading m ∙ replied.reads

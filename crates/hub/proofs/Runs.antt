@@ -4,7 +4,7 @@ use contract.Lifetimes.{Lfts}
 use borrow.Fn.World
 use borrow.Fn.Kinds as K
 use denote.Triple.Clauses
-use Rattle.words.specs.Basics.{◌≡◌, true, List, now}
+use Rattle.words.specs.Basics.{◌≡◌, true, List}
 use Rattle.rules.specs.Lists.{all}
 use Rattle.rules.specs.Frame.{Lent, lent}
 use Rattle.rules.specs.History.{Call, sends, admits, releases, Said, said_by, said_by_host, after, Event, history, octets_only, free_tables}
@@ -26,21 +26,21 @@ use Rattle.hub.proofs.release.Reads as release-reads
 
 module _ (κs : Lfts (message.signature).lifetimes) (a : World.ArgsD message.signature κs) where
   abbrev message-lent : Lent
-  message-lent = lent (now a.0) (now a.1.0) (now a.1.1.0) (now a.1.1.1.0) (now a.1.1.1.1.0)
+  message-lent = lent a.0.now a.1.0.now a.1.1.0.now a.1.1.1.0.now a.1.1.1.1.0.now
 
   abbrev message-call : Call
-  message-call = sends (now a.1.1.1.1.1.0) (now a.1.1.1.1.1.1.0) (now a.1.1.1.1.1.1.1.0)
+  message-call = sends a.1.1.1.1.1.0.now a.1.1.1.1.1.1.0.now a.1.1.1.1.1.1.1.0.now
 
 module _ (κs : Lfts (admit.signature).lifetimes) (a : World.ArgsD admit.signature κs) where
   abbrev admit-lent : Lent
-  admit-lent = lent (now a.0) (now a.1.0) (now a.1.1.0) (now a.1.1.1.0) (now a.1.1.1.1.0)
+  admit-lent = lent a.0.now a.1.0.now a.1.1.0.now a.1.1.1.0.now a.1.1.1.1.0.now
 
   abbrev admit-call : Call
-  admit-call = admits a.1.1.1.1.1.0 a.1.1.1.1.1.1.0 (now a.1.1.1.1.1.1.1.0)
+  admit-call = admits a.1.1.1.1.1.0 a.1.1.1.1.1.1.0 a.1.1.1.1.1.1.1.0.now
 
 module _ (κs : Lfts (release.signature).lifetimes) (a : World.ArgsD release.signature κs) where
   abbrev release-lent : Lent
-  release-lent = lent (now a.0) (now a.1.0) (now a.1.1.0) (now a.1.1.1.0) (now a.1.1.1.1.0)
+  release-lent = lent a.0.now a.1.0.now a.1.1.0.now a.1.1.1.0.now a.1.1.1.1.0.now
 
   abbrev release-call : Call
   release-call = releases a.1.1.1.1.1.0

@@ -76,7 +76,7 @@ module _ (L : Lent) (ix : List ℕ) (d : DeviceAddress) where
     -- the device is dismissed, and the index is that of the binds that are left
     pub release-whole : {x : HostAnswer} {jx : List ℕ} → index_right (tables L Binds) ix ≡ true
         → x ≡ settled (releasing (tables L) d) L (dismissal (tables L Devices) d) → jx ≡ index_of x.tables → indexed x jx ≡ release_indexed L ix d
-    unfolding release ask
+    unfolding release dismissal ask
     release-whole {x} c p i =
         let q : x ≡ release L d = p ∙ rw b in
         rw i (ap (λ (a : HostAnswer). indexed a (index_of a.tables)) q ∙ sym (with_right-release L ix d c))

@@ -3,7 +3,7 @@ use contract.Lifetimes.{Lfts}
 use borrow.Fn.World
 use borrow.Fn.Kinds as K
 use denote.Triple.Clauses
-use Rattle.words.specs.Basics.{◌≡◌, sym, ◌∙◌, now}
+use Rattle.words.specs.Basics.{◌≡◌, sym, ◌∙◌}
 use Rattle.rules.specs.Frame.{lent}
 use Rattle.rules.specs.Host.{HostAnswer, host_answer}
 use Rattle.rules.specs.Calls.{Answer, explaining}
@@ -20,8 +20,8 @@ use Rattle.indexed.proofs.indexed_release.Reads as release-reads
 module _ (κs : Lfts (indexed_message.signature).lifetimes) (a : World.ArgsD indexed_message.signature κs) where
   abbrev pub message-answer : World.ResD indexed_message.signature κs → Clauses.AtExit (K.ended_of _ message-kinds.ps message-kinds.r) κs → Indexed Answer
   message-answer r s =
-      indexed (explaining r.outcome r.reason (lent (now s.0) (now s.1.0) (now s.1.1.0) (now s.1.1.1.0) (now s.1.1.1.1.0))
-      (now s.1.1.1.1.1.1.1.0) (now s.1.1.1.1.1.1.1.1.0)) (now s.1.1.1.1.1.0)
+      indexed (explaining r.outcome r.reason (lent s.0.now s.1.0.now s.1.1.0.now s.1.1.1.0.now s.1.1.1.1.0.now)
+      s.1.1.1.1.1.1.1.0.now s.1.1.1.1.1.1.1.1.0.now) s.1.1.1.1.1.0.now
 
   pub message-once : (r r' : World.ResD indexed_message.signature κs) (s s' : Clauses.AtExit (K.ended_of _ message-kinds.ps message-kinds.r) κs)
       → message-reads.Post κs a r s → message-reads.Post κs a r' s' → message-answer r s ≡ message-answer r' s'
@@ -30,7 +30,7 @@ module _ (κs : Lfts (indexed_message.signature).lifetimes) (a : World.ArgsD ind
 module _ (κs : Lfts (indexed_release.signature).lifetimes) (a : World.ArgsD indexed_release.signature κs) where
   abbrev pub release-answer : World.ResD indexed_release.signature κs → Clauses.AtExit (K.ended_of _ release-kinds.ps release-kinds.r) κs → Indexed HostAnswer
   release-answer r s =
-      indexed (host_answer r (lent (now s.0) (now s.1.0) (now a.1.1.0) (now s.1.1.1.0) (now s.1.1.1.1.0))) (now s.1.1.1.1.1.0)
+      indexed (host_answer r (lent s.0.now s.1.0.now a.1.1.0.now s.1.1.1.0.now s.1.1.1.1.0.now)) s.1.1.1.1.1.0.now
 
   pub release-once : (r r' : World.ResD indexed_release.signature κs) (s s' : Clauses.AtExit (K.ended_of _ release-kinds.ps release-kinds.r) κs)
       → release-reads.Post κs a r s → release-reads.Post κs a r' s' → release-answer r s ≡ release-answer r' s'

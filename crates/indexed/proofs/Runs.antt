@@ -5,7 +5,7 @@ use contract.Lifetimes.{Lfts}
 use borrow.Fn.World
 use borrow.Fn.Kinds as K
 use denote.Triple.Clauses
-use Rattle.words.specs.Basics.{◌≡◌, refl, true, List, now}
+use Rattle.words.specs.Basics.{◌≡◌, refl, true, List}
 use Rattle.rules.specs.Lists.{all}
 use Rattle.rules.specs.Frame.{Lent, lent}
 use Rattle.rules.specs.History.{Call, sends, releases, Said, said_by, said_by_host, after, Event, history, octets_only, free_tables}
@@ -28,15 +28,15 @@ use Rattle.indexed.proofs.indexed_release.Reads as release-reads
 module _ (κs : Lfts (indexed_message.signature).lifetimes) (a : World.ArgsD indexed_message.signature κs) where
   abbrev message-lent : Hub
   message-lent =
-      indexed (lent (now a.0) (now a.1.0) (now a.1.1.0) (now a.1.1.1.0) (now a.1.1.1.1.0)) (now a.1.1.1.1.1.0)
+      indexed (lent a.0.now a.1.0.now a.1.1.0.now a.1.1.1.0.now a.1.1.1.1.0.now) a.1.1.1.1.1.0.now
 
   abbrev message-call : Call
-  message-call = sends (now a.1.1.1.1.1.1.0) (now a.1.1.1.1.1.1.1.0) (now a.1.1.1.1.1.1.1.1.0)
+  message-call = sends a.1.1.1.1.1.1.0.now a.1.1.1.1.1.1.1.0.now a.1.1.1.1.1.1.1.1.0.now
 
 module _ (κs : Lfts (indexed_release.signature).lifetimes) (a : World.ArgsD indexed_release.signature κs) where
   abbrev release-lent : Hub
   release-lent =
-      indexed (lent (now a.0) (now a.1.0) (now a.1.1.0) (now a.1.1.1.0) (now a.1.1.1.1.0)) (now a.1.1.1.1.1.0)
+      indexed (lent a.0.now a.1.0.now a.1.1.0.now a.1.1.1.0.now a.1.1.1.1.0.now) a.1.1.1.1.1.0.now
 
   abbrev release-call : Call
   release-call = releases a.1.1.1.1.1.1.0
