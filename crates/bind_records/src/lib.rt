@@ -1,6 +1,7 @@
 // A bind's record (document 01, Tables), handled as its eight octets, copied whole: source device and unit, the destination's interface, destination and
 // unit. Where it says any device, any unit or any interface: document 000, 6.2.1. No other crate knows the place of a bind's field.
 #![tactic(auto)]
+
 ghost use Rattle.words.specs.Basics.{◌≡◌, ◌+◌, ◌≤◌, length, take, drop};
 ghost use Rattle.rules.specs.Types.{Binds};
 ghost use Rattle.rules.specs.Tables.{matches};

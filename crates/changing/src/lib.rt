@@ -1,6 +1,7 @@
 // The two ways in which a command changes a table (document 01, Tables and Commands and codes): one record more, or all that match free; and the
 // reply that is its code, or its code and a word.
 #![tactic(auto)]
+
 ghost use Rattle.words.specs.Basics.{◌≡◌, not, [], ◌∷◌, ◌+◌, ◌%◌, ◌<◌, ◌≤◌, length};
 ghost use Rattle.words.specs.Names.{ok, invalid_argument, not_enough_resources};
 ghost use Rattle.rules.specs.Lists.{ask};
@@ -12,6 +13,7 @@ ghost use Rattle.changing.specs.Changing.{coded, coding};
 use words::Code;
 
 // The code of an addition: the record must not be there, and one record must be free.
+#[tactic(auto, unfolding(rules::specs::Lists::ask))]
 pub fn addition(there: bool, room: bool) -> Code
     ensures { result ≡ ask (not there) invalid_argument (ask room not_enough_resources ok) }
 {

@@ -1,5 +1,6 @@
 // A copy of a message for one recipient (document 01, Outcomes, 19): the message, with the recipient as its destination.
 #![tactic(auto)]
+
 ghost use Rattle.words.specs.Basics.{◌≡◌, [], ◌∷◌, ◌++◌, ◌≤◌, length};
 ghost use Rattle.words.specs.Names.{header_length};
 ghost use Rattle.rules.specs.Octets.{octets, over};

@@ -1,5 +1,6 @@
 // What follows once a message is decided (document 01, Outcomes): its command is served, or its recipients are listed.
 #![tactic(auto)]
+
 ghost use Rattle.words.specs.Basics.{◌≡◌, []};
 ghost use Rattle.rules.specs.Types.{Binds, Members};
 ghost use Rattle.rules.specs.Frame.{Lent, nothing_lent, beside, table};
@@ -49,6 +50,7 @@ pub fn serve(
 }
 
 // The outcome of so many recipients.
+#[tactic(auto, unfolding(crate::specs::Following::outcome_of))]
 pub fn outcome_of(count: usize) -> Outcome
     ensures { result ≡ outcome_of count }
 {

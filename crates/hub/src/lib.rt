@@ -1,6 +1,7 @@
 // The public calls of the bind and group part (documents 01 and 02), and here the one for a message: read once, decided by all that is lent; then its
 // command is served, or its recipients are listed.
 #![tactic(auto)]
+
 ghost use Rattle.words.specs.Basics.{◌≡◌};
 ghost use Rattle.rules.specs.Types.{NoFault};
 ghost use Rattle.rules.specs.Frame.{lent};

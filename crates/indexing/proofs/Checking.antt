@@ -1,15 +1,16 @@
 -- The loops of the check of an index. What is left gives the whole answer.
 use native.Mathlib.Numerals.{add-one}
-use Rattle.words.specs.Basics.{◌≡◌, refl, sym, ap, ◌∙◌, Bool, true, false, cond, ◌&&◌, List, [], ◌∷◌, ℕ, suc, ◌+◌, ◌-◌, ◌<◌, ◌≤◌, arith, leb, length, get_or}
-use Rattle.words.specs.Basics.{take, drop, drop-cons}
+use Rattle.words.specs.Basics.{◌≡◌, refl, sym, ap, ◌∙◌, Bool, true, false, cond, ◌&&◌, List, [], ◌∷◌, ℕ, suc, ◌+◌, ◌-◌, ◌/◌, ◌<◌, ◌≤◌, arith, leb, length}
+use Rattle.words.specs.Basics.{get_or, take, drop, drop-cons}
 use Rattle.rules.specs.Types.{Binds}
 use Rattle.rules.specs.Lists.{◌&◌}
 use Rattle.rules.specs.Tables.{Rec, is_free}
 use Rattle.rules.specs.Layout.{size}
 use Rattle.rules.specs.Frame.{table}
-use Rattle.rules.proofs.Records.{records-at, records_end}
+use Rattle.rules.proofs.Records.{records-at, records_end, length-records}
 use Rattle.index_rules.specs.Index.{rank, ranks, entry_rank, entry_used}
 use Rattle.index_rules.specs.Walks.{rising_from}
+use Rattle.index_rules.proofs.Ranks.{ranks-length}
 
 -- Counting the used records
 
@@ -54,6 +55,10 @@ module _ {t : List ℕ} where
   counting_end {at} {count} c l =
       let e : length (ranks 0 (table Binds (drop at t))) ≡ 0 = rw (records_end (size Binds) at t l) in
       omega (arith, c.rest)
+
+-- no more binds are in use than there are
+pub used_few : (t : List ℕ) → length (ranks 0 (table Binds t)) ≤ length t / size Binds
+used_few t = let l = length-records (size Binds) t in omega (arith, ranks-length 0 (table Binds t))
 
 -- Walking the entries
 

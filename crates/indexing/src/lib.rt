@@ -1,5 +1,6 @@
 // The index of the bind table (document 02, request 3): ranks of its entries, and whether it is right.
 #![tactic(auto)]
+
 mod searching;
 
 ghost use Rattle.words.specs.Basics.{◌≡◌, ◌+◌, ◌*◌, ◌/◌, ◌^◌, ◌<◌, ◌≤◌, leb, length, take};
@@ -118,6 +119,7 @@ fn rising_used(binds: &[u8], index: &[u8], n: usize) -> bool
 }
 
 // Outcome 30: "index of wrong length or content". As many entries as binds in use, by strictly rising rank, name each of them once; then 0xFF to the end.
+#[tactic(auto, using(crate::proofs::Checking::used_few))]
 pub fn index_right(binds: &[u8], index: &[u8]) -> bool
     requires { length binds.now ≤ full Binds }
     ensures { result ≡ index_right (table Binds binds.now) index.now }

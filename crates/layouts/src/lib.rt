@@ -1,6 +1,7 @@
 // The records (document 01, Tables): how many octets a record of each table has, how many there may be, and its fields, read and built; those of a bind
 // stand in `bind_records`, those of a device in `device_records`, those of an old device in `carrying`. No other crate knows the place of a field.
 #![tactic(auto)]
+
 mod members;
 
 ghost use Rattle.words.specs.Basics.{◌≡◌, ◌+◌, ◌^◌, ◌<◌, ◌≤◌, length};

@@ -1,5 +1,6 @@
 // Which records a message is about (document 01, Recipients): the binds that match it, the members of a group.
 #![tactic(auto)]
+
 ghost use Rattle.words.specs.Basics.{◌≡◌, ◌+◌, ◌^◌, ◌<◌, ◌≤◌, length, take, drop};
 ghost use Rattle.rules.specs.Types.{Binds, Members};
 ghost use Rattle.rules.specs.Layout.{size, member_number, in_group};

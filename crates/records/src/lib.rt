@@ -1,5 +1,6 @@
 // Records of one size, one after the other (document 01, Tables): found, added and removed.
 #![tactic(auto)]
+
 ghost use Rattle.words.specs.Basics.{◌≡◌, ◌+◌, ◌%◌, ◌<◌, ◌≤◌, length, take, drop};
 ghost use Rattle.rules.specs.Lists.{any};
 ghost use Rattle.rules.specs.Tables.{records, is_free, used, some_free, matches, written, store, wipe};

@@ -1,6 +1,7 @@
 // The index after a change of the binds (document 02, request 3): it is kept right in itself, by moving its entries. Entries of binds that are free now go,
 // and the one that was added goes where its rank belongs. An addition takes the first free record, so that its position is known before.
 #![tactic(auto)]
+
 ghost use Rattle.words.specs.Basics.{◌≡◌, ◌≤◌, length};
 ghost use Rattle.rules.specs.Types.{Binds};
 ghost use Rattle.rules.specs.Layout.{full};

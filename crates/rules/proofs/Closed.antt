@@ -1,6 +1,6 @@
 -- Closing, over all calls (document 02, request 1): a call that changes the bind table leaves no session open, one that does not leaves every other device's,
 -- and a session that is still open reads the binds that it was started on.
-use Rattle.words.specs.Basics.{◌≡◌, refl, sym, ap, ◌∙◌, Bool, true, false, cond, not, ◌&&◌, false≢true, List, [], ◌∷◌, ◌++◌, ℕ, ◌+◌, ◌%◌, arith}
+use Rattle.words.specs.Basics.{◌≡◌, refl, sym, ap, ◌∙◌, Bool, true, false, cond, not, ◌&&◌, false≢true, List, [], ◌∷◌, ◌++◌, ℕ, ◌%◌, arith}
 use Rattle.words.specs.Basics.{eqb, length, eqb-true}
 use Rattle.words.specs.Outcomes.{number_of}
 use Rattle.rules.specs.Types.{DeviceAddress, Binds, Sessions, Outcome}

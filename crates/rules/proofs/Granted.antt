@@ -10,7 +10,7 @@ use Rattle.rules.specs.Tables.{Rec, used, some_free, matches, addressed, Change,
 use Rattle.rules.specs.Layout.{size, key, longest_name, member_group, to_group, bound_group, group_record, to_this_group, in_group, session_record}
 use Rattle.rules.specs.Frame.{Lent, Tables, tables, also, Effect, nothing, only}
 use Rattle.rules.specs.Exists.{admitted, device_exists, may_command, has_rights, group_exists}
-use Rattle.rules.specs.Sound.{whole_records, device_fits, bind_fits, session_fits, fits, sound_table, sound}
+use Rattle.rules.specs.Sound.{whole_records, device_fits, bind_fits, session_fits, fits, sound_table}
 use Rattle.rules.specs.Payloads.{bind_of, member_of, group_named}
 use Rattle.rules.specs.Faults.{add_fault}
 use Rattle.rules.specs.Sessions.{in_session, alters, closing}

@@ -8,7 +8,7 @@ use Rattle.words.specs.Basics.{◌≡◌, refl, sym, ap, ◌∙◌, Bool, true, 
 use Rattle.words.specs.Basics.{◌-◌, ◌*◌, ◌/◌, ◌%◌, ◌<◌, ◌≤◌, arith, eqb, length, take, drop, replicate, length-drop, length-append, length-map, sets}
 use Rattle.words.specs.Basics.{length-take-le, drop_at, drop-length, drop-drop, get_or-drop, length-sets, sets-eq}
 use Rattle.rules.specs.Octets.{octet, starts}
-use Rattle.rules.specs.Tables.{Rec, cut, records, bytes, is_free, blank, matches, put, clear, none, written}
+use Rattle.rules.specs.Tables.{Rec, cut, records, bytes, is_free, blank, matches, put, clear}
 
 -- Cutting
 

@@ -1,5 +1,5 @@
 -- Rows: when a message is refused (document 01, Outcomes). Of each the tables, the reply and the list keep every octet.
-use Rattle.words.specs.Basics.{List, [], ◌∷◌, ◌++◌, map, flat_map, ℕ, ◌+◌, replicate}
+use Rattle.words.specs.Basics.{List, [], ◌∷◌, ◌++◌, map, flat_map, ℕ, replicate}
 use Rattle.rules.specs.Frame.{Lent}
 use Rattle.rules.specs.Calls.{Answer}
 use Rattle.rules.proofs.Samples.{Row, row, run, lending, filled, devices, groups, members, holding, house, three-one, concentrator, to_bind_address}

@@ -2,9 +2,11 @@
 // Each step sends one message over the same tables: steps 0 and 1 the lengths, 2 to 65 the sixty-four binds that fill the table, of which nothing is
 // printed, 66 to 68 a bind more, a removal and that bind again, 69 and 70 the names.
 #![tactic(auto)]
+
 ghost use Rattle.words.specs.Basics.{◌≡◌, ◌≤◌, length};
 
-use libc::STDOUT_FILENO;
+use std::io;
+use std::rt::HostRuntime;
 
 // These octets, and zeros behind them.
 fn padded(start: &[u8]) -> [u8; 501]
@@ -75,29 +77,26 @@ fn length_of(step: u8) -> usize
     }
 }
 
-// Writes what was tried, up to its outcome, as `io::write_all` does.
-fn write_label(step: u8) -> bool {
+// Writes what was tried, up to its outcome.
+fn write_label(rt: &HostRuntime, step: u8) -> io::Result<()> {
     match step {
-        0 => io::write_all(STDOUT_FILENO, b"500 octets: outcome "),
-        1 => io::write_all(STDOUT_FILENO, b"501 octets: outcome "),
-        66 => io::write_all(STDOUT_FILENO, b"the 65th bind: outcome "),
-        67 => io::write_all(STDOUT_FILENO, b"one removal: outcome "),
-        68 => io::write_all(STDOUT_FILENO, b"the 65th bind again: outcome "),
-        69 => io::write_all(STDOUT_FILENO, b"a name of 13: outcome "),
-        _ => io::write_all(STDOUT_FILENO, b"a name of 14: outcome "),
+        0 => print!(rt; "500 octets: outcome "),
+        1 => print!(rt; "501 octets: outcome "),
+        66 => print!(rt; "the 65th bind: outcome "),
+        67 => print!(rt; "one removal: outcome "),
+        68 => print!(rt; "the 65th bind again: outcome "),
+        69 => print!(rt; "a name of 13: outcome "),
+        _ => print!(rt; "a name of 14: outcome "),
     }
 }
 
 // A line: what was tried, the outcome, and octet 16 of the reply, its code.
-fn say(step: u8, outcome: u8, code: u8) {
+fn say(rt: &HostRuntime, step: u8, outcome: u8, code: u8) -> io::Result<()> {
     if (step >= 2) & (step < 66) {
-        return;
+        return Ok(());
     }
-    write_label(step);
-    io::print_decimal(STDOUT_FILENO, outcome as u64);
-    io::write_all(STDOUT_FILENO, b" code ");
-    io::print_decimal(STDOUT_FILENO, code as u64);
-    io::write_all(STDOUT_FILENO, b"\n");
+    write_label(rt, step)?;
+    println!(rt; "{outcome} code {code}")
 }
 
 // Devices 3, with rights, and 4, each with the units 0 to 2; all other records are free.
@@ -111,7 +110,7 @@ fn two_devices() -> [u8; 2304]
     devices
 }
 
-fn main() {
+fn main(rt: HostRuntime) -> io::Result<()> {
     let mut devices = two_devices();
     let mut binds = [0xFFu8; 512];
     let mut groups = [0xFFu8; 256];
@@ -134,7 +133,8 @@ fn main() {
             &mut list,
         );
         let outcome = told.outcome;
-        say(step, outcome.number(), reply[15]);
+        say(&rt, step, outcome.number(), reply[15])?;
         step += 1;
     }
+    Ok(())
 }

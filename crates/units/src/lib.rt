@@ -1,5 +1,6 @@
 // Units in a lent list (document 01, Outcomes and Recipients), 3 octets each: read, written, looked for, and put in order.
 #![tactic(auto)]
+
 mod rising;
 
 ghost use Rattle.words.specs.Basics.{◌≡◌, ◌+◌, ◌*◌, ◌^◌, ◌<◌, ◌≤◌, length, sets};

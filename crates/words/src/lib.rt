@@ -1,5 +1,6 @@
 // The words of the paper as types: addresses, response codes, what a message says, what it is, and what a call answers. specs/ says what they mean.
 #![tactic(auto)]
+
 mod addresses;
 mod codes;
 mod headers;

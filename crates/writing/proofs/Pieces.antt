@@ -1,7 +1,7 @@
 -- Pieces written one behind the other are one piece. A loop's invariant says that what is left to write gives the whole.
 use native.Mathlib.Nat.{add-zero}
 use native.Mathlib.Numerals.{add-one}
-use Rattle.words.specs.Basics.{◌≡◌, refl, ap, ◌∙◌, List, [], ◌∷◌, ◌++◌, flat_map, ℕ, suc, ◌+◌, ◌-◌, ◌*◌, ◌<◌, ◌≤◌, arith, length, drop, get_or, length-append}
+use Rattle.words.specs.Basics.{◌≡◌, refl, ap, ◌∙◌, List, [], ◌∷◌, ◌++◌, flat_map, ℕ, suc, ◌+◌, ◌*◌, ◌<◌, ◌≤◌, arith, length, drop, get_or, length-append}
 use Rattle.words.specs.Basics.{drop_of_length-le, sets, drop-cons, length-sets}
 use Rattle.rules.specs.Octets.{over}
 use Rattle.octets.proofs.Runs.{sets_over}

@@ -2,7 +2,7 @@
 use Prim.Native.Char.{code}
 use Prim.Native.String.{String, [] as empty, ◌∷◌ as ◌then◌}
 use Rattle.words.specs.Basics.{◌≡◌, cond, List, [], ◌∷◌, ◌++◌, ℕ, zero, suc, ◌+◌, ◌-◌, ◌/◌, ◌%◌, ◌≤◌, ltb, length, sets}
-use Rattle.rules.specs.Octets.{octet, over}
+use Rattle.rules.specs.Octets.{over}
 
 -- a text's octets
 abbrev pub ascii : String → List ℕ

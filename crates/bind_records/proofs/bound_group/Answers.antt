@@ -1,0 +1,7 @@
+-- `bind_records::bound_group` meets its contract: the number of the word that stands there.
+use Rattle.rules.specs.Octets.{number}
+use Rattle.bind_records.proofs.bound_group.Goals as goal
+
+pub returns : goal.returns
+unfolding number
+returns c = rw (c.number.ensures, c.word_at.ensures)

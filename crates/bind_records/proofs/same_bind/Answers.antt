@@ -1,0 +1,7 @@
+-- `bind_records::same_bind` meets its contract: the octets match from the first place on.
+use Rattle.rules.specs.Tables.{matches}
+use Rattle.bind_records.proofs.same_bind.Goals as goal
+
+pub returns : goal.returns
+unfolding matches
+returns c = c.same_at.ensures

@@ -1,0 +1,12 @@
+-- `writing::digit` meets its contract. The test is the definition's.
+use Rattle.words.specs.Basics.{lt-ltb, le-ltb}
+use Rattle.writing.specs.Writing.{digit}
+use Rattle.writing.proofs.digit.Goals as goal
+
+pub returns-then-n-lt10 : goal.returns-then-n-lt10
+unfolding digit
+returns-then-n-lt10 c = rw (lt-ltb _ _ c.if-n-lt10.true)
+
+pub returns-else-n-lt10 : goal.returns-else-n-lt10
+unfolding digit
+returns-else-n-lt10 c = rw (le-ltb _ _ c.if-n-lt10.false)
