@@ -1,5 +1,5 @@
 -- A command's own part: the payload of its reply over the part of the lent reply behind the header, and the tables after it.
-use Rattle.words.specs.Basics.{◌≡◌, true, List, ℕ, length}
+use Rattle.std.specs.Prelude.{◌≡◌, true, List, ℕ, length}
 use Rattle.rules.specs.Types.{DeviceAddress, Code, Command}
 use Rattle.rules.specs.Octets.{over}
 use Rattle.rules.specs.Frame.{Lent, beside, tables, Effect, nothing, changed}

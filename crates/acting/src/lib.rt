@@ -1,7 +1,7 @@
 // A command's own part (document 01, Commands and codes; document 02, request 1): its handler, behind the checks that all commands share.
 #![tactic(auto)]
 
-ghost use Rattle.words.specs.Basics.{◌≡◌, ◌+◌, ◌≤◌, length};
+ghost use Rattle.std.specs.Prelude.{◌≡◌, ◌+◌, ◌≤◌, length};
 ghost use Rattle.words.specs.Names.{header_length, longest};
 ghost use Rattle.rules.specs.Frame.{Lent, beside};
 ghost use Rattle.rules.specs.Commands.{row};

@@ -1,7 +1,8 @@
 // The commands of Bind Management (document 01, Commands and codes). "A bind is handled as its eight octets, copied whole": it is read from a payload or a
 // record, compared and stored by value.
 #![tactic(auto)]
-ghost use Rattle.words.specs.Basics.{◌≡◌, ◌%◌, length};
+
+ghost use Rattle.std.specs.Prelude.{◌≡◌, ◌%◌, length};
 ghost use Rattle.rules.specs.Types.{Devices, Binds, Groups};
 ghost use Rattle.rules.specs.Lists.{any};
 ghost use Rattle.rules.specs.Tables.{used, matches, store, wipe, written};

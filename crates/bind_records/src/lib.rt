@@ -2,7 +2,7 @@
 // unit. Where it says any device, any unit or any interface: document 000, 6.2.1. No other crate knows the place of a bind's field.
 #![tactic(auto)]
 
-ghost use Rattle.words.specs.Basics.{◌≡◌, ◌+◌, ◌≤◌, length, take, drop};
+ghost use Rattle.std.specs.Prelude.{◌≡◌, ◌+◌, ◌≤◌, length, take, drop};
 ghost use Rattle.rules.specs.Types.{Binds};
 ghost use Rattle.rules.specs.Tables.{matches};
 ghost use Rattle.rules.specs.Layout.{size, part_start, part_length, bind_source, bind_source_unit, bind_from, bind_role, bind_uid};

@@ -1,7 +1,8 @@
 // Old device tables carried over (document 02, request 2): records of 4 octets, in which a device has units 0 to its highest, become records with a set
 // of units. The old record is known here alone.
 #![tactic(auto)]
-ghost use Rattle.words.specs.Basics.{◌≡◌, ◌+◌, ◌*◌, ◌%◌, ◌≤◌, length, take, drop};
+
+ghost use Rattle.std.specs.Prelude.{◌≡◌, ◌+◌, ◌*◌, ◌%◌, ◌≤◌, length, take, drop};
 ghost use Rattle.rules.specs.Lists.{all};
 ghost use Rattle.rules.specs.Tables.{records, used};
 ghost use Rattle.rules.specs.Carry.{old_size, old_fits, old_sound, carried, carried_table, times, carry_answer, carry_outcome, carried_over};
@@ -107,6 +108,7 @@ fn carry_outcome(old: &[u8], new: &[u8]) -> Outcome
 }
 
 // Carries an old device table over into a new one: every octet of the new table is written, or none.
+#[tactic(auto, using(crate::proofs::Settled::carry_refused, crate::proofs::Settled::carry_done))]
 pub fn carry_over(old: &[u8], new: &mut [u8]) -> Outcome
     ensures { carry_answer result new.new ≡ carried_over old.now new.old }
 {

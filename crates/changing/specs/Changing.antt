@@ -1,5 +1,5 @@
 -- What a change of one table answers: the code of its checks, and the table that was lent, changed where the code is 0x00.
-use Rattle.words.specs.Basics.{List, ℕ}
+use Rattle.std.specs.Prelude.{List, ℕ}
 use Rattle.rules.specs.Types.{Code}
 use Rattle.rules.specs.Tables.{Change, written}
 use Rattle.rules.specs.Commands.{on_ok}

@@ -2,7 +2,7 @@
 // reply that is its code, or its code and a word.
 #![tactic(auto)]
 
-ghost use Rattle.words.specs.Basics.{◌≡◌, not, [], ◌∷◌, ◌+◌, ◌%◌, ◌<◌, ◌≤◌, length};
+ghost use Rattle.std.specs.Prelude.{◌≡◌, not, [], ◌∷◌, ◌+◌, ◌%◌, ◌<◌, ◌≤◌, length};
 ghost use Rattle.words.specs.Names.{ok, invalid_argument, not_enough_resources};
 ghost use Rattle.rules.specs.Lists.{ask};
 ghost use Rattle.rules.specs.Octets.{octets, over};

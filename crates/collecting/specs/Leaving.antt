@@ -1,5 +1,5 @@
 -- Who is left out (document 01, Recipients, "without the sender"), and those that are taken.
-use Rattle.words.specs.Basics.{Bool, false, not, List, ℕ, eqb}
+use Rattle.std.specs.Prelude.{Bool, false, not, List, ℕ, eqb}
 use Rattle.rules.specs.Types.{GroupAddress, Fields}
 use Rattle.rules.specs.Lists.{keep}
 use Rattle.rules.specs.Tables.{Rec}

@@ -1,6 +1,7 @@
 // The recipients are collected in the lent list, each once (document 01, Recipients): those that a record gives, then those of a table.
 #![tactic(auto)]
-ghost use Rattle.words.specs.Basics.{◌≡◌, [], ◌∷◌, ◌+◌, ◌^◌, ◌<◌, ◌≤◌, length, take, drop};
+
+ghost use Rattle.std.specs.Prelude.{◌≡◌, [], ◌∷◌, ◌+◌, ◌^◌, ◌<◌, ◌≤◌, length, take, drop};
 ghost use Rattle.rules.specs.Types.{Binds, Members};
 ghost use Rattle.rules.specs.Layout.{size};
 ghost use Rattle.rules.specs.Frame.{table};
@@ -13,7 +14,7 @@ use layouts::{BIND, MEMBER};
 use words::{Fields, GroupAddress};
 
 // Whom a collection leaves out: the sender, by its number, where the paper says so.
-#[derive(Drop)]
+#[derive(Clone, Copy)]
 pub enum Except {
     Nobody,
     Sender(u32),

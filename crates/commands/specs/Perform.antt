@@ -1,5 +1,5 @@
 -- A command whole: all checks, its own part, and sessions closed where it changes the binds.
-use Rattle.words.specs.Basics.{Bool, true, false, List, ℕ}
+use Rattle.std.specs.Prelude.{Bool, true, false, List, ℕ}
 use Rattle.rules.specs.Types.{DeviceAddress, Code, Reason, Command, AddBind, RemoveBinds, StartSession, EndSession, GetEntries, CreateGroup}
 use Rattle.rules.specs.Types.{DeleteGroup, AddToGroup, RemoveFromGroup, GetGroupInfo}
 use Rattle.rules.specs.Lists.{any}

@@ -1,7 +1,8 @@
 // A command whole: rights, length and what its caller is told (document 02, request 6), then its own handler (document 01, Commands and codes), and
 // sessions closed where it changed the binds (document 02, request 1). It gets the tables that commands use, whatever else is lent.
 #![tactic(auto)]
-ghost use Rattle.words.specs.Basics.{◌≡◌, true, cond, [], ◌∷◌, ◌+◌, ◌≤◌, length};
+
+ghost use Rattle.std.specs.Prelude.{◌≡◌, true, cond, [], ◌∷◌, ◌+◌, ◌≤◌, length};
 ghost use Rattle.words.specs.Names.{header_length, longest};
 ghost use Rattle.rules.specs.Types.{Devices, Binds};
 ghost use Rattle.rules.specs.Octets.{over};

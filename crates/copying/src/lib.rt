@@ -1,7 +1,7 @@
 // A copy of a message for one recipient (document 01, Outcomes, 19): the message, with the recipient as its destination.
 #![tactic(auto)]
 
-ghost use Rattle.words.specs.Basics.{◌≡◌, [], ◌∷◌, ◌++◌, ◌≤◌, length};
+ghost use Rattle.std.specs.Prelude.{◌≡◌, [], ◌∷◌, ◌++◌, ◌≤◌, length};
 ghost use Rattle.words.specs.Names.{header_length};
 ghost use Rattle.rules.specs.Octets.{octets, over};
 ghost use Rattle.rules.specs.Copy.{copied, copy_fits, copy_answer, copy};

@@ -1,5 +1,5 @@
 -- What Create Group answers.
-use Rattle.words.specs.Basics.{List, [], ◌∷◌, ℕ, length}
+use Rattle.std.specs.Prelude.{List, [], ◌∷◌, ℕ, length}
 use Rattle.rules.specs.Types.{GroupAddress, Code, Groups}
 use Rattle.rules.specs.Octets.{octets, over}
 use Rattle.rules.specs.Tables.{store, written}

@@ -1,6 +1,7 @@
 // Create Group (document 01, Commands and codes): the smallest address not in use, a record, and the address in the reply.
 #![tactic(auto)]
-ghost use Rattle.words.specs.Basics.{◌≡◌, ◌+◌, ◌%◌, ◌<◌, ◌≤◌, length};
+
+ghost use Rattle.std.specs.Prelude.{◌≡◌, ◌+◌, ◌%◌, ◌<◌, ◌≤◌, length};
 ghost use Rattle.rules.specs.Types.{Groups};
 ghost use Rattle.rules.specs.Octets.{octet};
 ghost use Rattle.rules.specs.Tables.{store};

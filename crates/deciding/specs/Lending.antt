@@ -1,5 +1,5 @@
 -- What is asked of all that is lent, before the message is looked at (document 01, Outcomes): 17, then 16, else 0.
-use Rattle.words.specs.Basics.{List, ℕ}
+use Rattle.std.specs.Prelude.{List, ℕ}
 use Rattle.rules.specs.Types.{Outcome, Done, Unsound, NoRoom}
 use Rattle.rules.specs.Lists.{ask}
 use Rattle.rules.specs.Frame.{Lent}

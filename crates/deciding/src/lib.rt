@@ -1,6 +1,7 @@
 // What a message comes to (document 01, Outcomes): every check, in the paper's order, before anything is written.
 #![tactic(auto)]
-ghost use Rattle.words.specs.Basics.{◌≡◌, List, ℕ, max};
+
+ghost use Rattle.std.specs.Prelude.{◌≡◌, List, ℕ, max};
 ghost use Rattle.rules.specs.Types.{Devices, Groups, NoDestination, Refuse, Forward};
 ghost use Rattle.rules.specs.Lists.{ask};
 ghost use Rattle.rules.specs.Frame.{lent, table};

@@ -1,6 +1,7 @@
 // Which command a message is, and what stands before its own checks (document 01, Commands and codes).
 #![tactic(auto)]
-ghost use Rattle.words.specs.Basics.{◌≡◌, cond};
+
+ghost use Rattle.std.specs.Prelude.{◌≡◌, cond};
 ghost use Rattle.rules.specs.Types.{CreateGroup, Is};
 ghost use Rattle.rules.specs.Payloads.{read_command, bind_command, group_command, command};
 ghost use Rattle.rules.specs.Sessions.{filter_length};
@@ -114,6 +115,7 @@ fn group_command(member: u8) -> Decoded
 }
 
 // One of the commands as type 0x01 or 0x02 to a server interface, or what is not served.
+#[tactic(auto, using(crate::proofs::Decoding::checks))]
 pub fn command(f: Fields) -> Decoded
     ensures { result ≡ command f }
 {

@@ -1,5 +1,5 @@
 -- When delivery may be asked for (document 01, Recipients and Outcomes).
-use Rattle.words.specs.Basics.{List, ℕ, ◌+◌, ◌*◌, ◌/◌, ◌≤◌, max, length}
+use Rattle.std.specs.Prelude.{List, ℕ, ◌+◌, ◌*◌, ◌/◌, ◌≤◌, max, length}
 use Rattle.rules.specs.Types.{Binds, Members}
 use Rattle.rules.specs.Layout.{size, full}
 

@@ -1,6 +1,7 @@
 // A device's record (document 02, request 2): address, rights, one octet that is 0, and its set of units. No other crate knows where a unit's bit stands.
 #![tactic(auto)]
-ghost use Rattle.words.specs.Basics.{◌≡◌, ◌+◌, ◌<◌, ◌≤◌, length, drop};
+
+ghost use Rattle.std.specs.Prelude.{◌≡◌, ◌+◌, ◌<◌, ◌≤◌, length, drop};
 ghost use Rattle.rules.specs.Layout.{units_length, in_set, among, low_bits, up_to, device_record};
 
 use layouts::DEVICE;

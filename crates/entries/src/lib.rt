@@ -1,6 +1,8 @@
 // The binds that a read gives (document 02, request 1; document 000, 6.2.5.9 to 6.2.5.13): one loop writes entries, whatever they are asked by.
 #![tactic(auto)]
-ghost use Rattle.words.specs.Basics.{◌≡◌, cond, ◌∷◌, ◌+◌, ◌*◌, ◌≤◌, min, length, take, drop, sets};
+
+ghost use Rattle.std.specs.Prelude.{◌≡◌, cond, ◌∷◌, ◌+◌, ◌*◌, ◌≤◌, min, length, take, drop};
+ghost use Rattle.std.proofs.lemmas.List.Edits.{sets};
 ghost use Rattle.words.specs.Names.{ok, header_length, longest};
 ghost use Rattle.rules.specs.Types.{Binds, Index, Part};
 ghost use Rattle.rules.specs.Lists.{tick};

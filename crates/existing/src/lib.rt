@@ -1,6 +1,7 @@
 // What exists (document 01, Tables). A device's address and a group's are two types, and a lookup takes only its own.
 #![tactic(auto)]
-ghost use Rattle.words.specs.Basics.{◌≡◌, ◌+◌, ◌≤◌, length, take, drop};
+
+ghost use Rattle.std.specs.Prelude.{◌≡◌, ◌+◌, ◌≤◌, length, take, drop};
 ghost use Rattle.rules.specs.Types.{Devices, Groups};
 ghost use Rattle.rules.specs.Lists.{any};
 ghost use Rattle.rules.specs.Tables.{records, used, addressed};

@@ -1,5 +1,5 @@
 -- The chain of a bind's faults (rules, Faults) in parts, as the code asks them: of a unit, of the source, of the destination.
-use Rattle.words.specs.Basics.{cond, List, ℕ}
+use Rattle.std.specs.Prelude.{cond, List, ℕ}
 use Rattle.words.specs.Reasons.{faultless}
 use Rattle.rules.specs.Types.{DeviceAddress, Reason, NoFault, NoSourceDevice, NoSourceUnit, NoDestinationDevice, NoDestinationUnit, NoGroup, BoundToItself}
 use Rattle.rules.specs.Lists.{ask}

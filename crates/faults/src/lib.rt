@@ -1,7 +1,8 @@
 // What is wrong with a bind by its fields (document 01, Commands and codes; document 02, requests 4 and 6). Add Bind tells it, and a sound table's binds
 // have no such fault.
 #![tactic(auto)]
-ghost use Rattle.words.specs.Basics.{◌≡◌};
+
+ghost use Rattle.std.specs.Prelude.{◌≡◌};
 ghost use Rattle.rules.specs.Types.{Devices, Groups};
 ghost use Rattle.rules.specs.Frame.{table};
 ghost use Rattle.rules.specs.Faults.{bind_fault};

@@ -1,7 +1,8 @@
 // When the fields of a record are in range (document 01, Tables): the rules of a table that is sound, and those of Add to Group. What a bind must meet is in
 // `faults`.
 #![tactic(auto)]
-ghost use Rattle.words.specs.Basics.{◌≡◌, ◌+◌, ◌<◌, ◌≤◌, eqb, length, drop};
+
+ghost use Rattle.std.specs.Prelude.{◌≡◌, ◌+◌, ◌<◌, ◌≤◌, eqb, length, drop};
 ghost use Rattle.rules.specs.Types.{Devices, Groups, Sessions};
 ghost use Rattle.rules.specs.Lists.{all};
 ghost use Rattle.rules.specs.Layout.{size, units_length, name_padding};

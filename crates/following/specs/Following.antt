@@ -1,5 +1,5 @@
 -- What the acting parts of a message are handed, and what the number of recipients says.
-use Rattle.words.specs.Basics.{cond, List, ℕ, ◌≤◌, eqb, length}
+use Rattle.std.specs.Prelude.{cond, List, ℕ, ◌≤◌, eqb, length}
 use Rattle.words.specs.Names.{longest}
 use Rattle.rules.specs.Types.{Fields, Outcome, Forwarded, Nobody}
 use Rattle.messages.specs.Ranges.{Ranged}

@@ -1,7 +1,7 @@
 // What follows once a message is decided (document 01, Outcomes): its command is served, or its recipients are listed.
 #![tactic(auto)]
 
-ghost use Rattle.words.specs.Basics.{◌≡◌, []};
+ghost use Rattle.std.specs.Prelude.{◌≡◌, []};
 ghost use Rattle.rules.specs.Types.{Binds, Members};
 ghost use Rattle.rules.specs.Frame.{Lent, nothing_lent, beside, table};
 ghost use Rattle.rules.specs.Recipients.{recipients};

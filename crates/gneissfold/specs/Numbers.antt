@@ -1,6 +1,6 @@
 -- What the exported calls answer: the answers of `rules`, with the outcome as the paper's number (document 01, Outcomes) and the count or length that
 -- goes with it, and a reason as its number and its octet (document 02, request 6).
-use Rattle.words.specs.Basics.{Bool, List, [], ◌∷◌, ℕ, eqb}
+use Rattle.std.specs.Prelude.{Bool, List, [], ◌∷◌, ℕ, eqb}
 use Rattle.words.specs.Names.{invalid_argument, header_length}
 use Rattle.words.specs.Outcomes.{number_of, value_of}
 use Rattle.words.specs.Reasons.{reason_number, reason_octet}

@@ -2,7 +2,8 @@
 // answer in numbers: the paper's outcome number is returned, a length or count, a reason and its octet go where the caller points.
 // No call requires anything: each answers on any octets and any lengths.
 #![tactic(auto)]
-ghost use Rattle.words.specs.Basics.{◌≡◌};
+
+ghost use Rattle.std.specs.Prelude.{◌≡◌};
 ghost use Rattle.words.specs.Names.{device};
 ghost use Rattle.words.specs.Outcomes.{number_of, value_of};
 ghost use Rattle.words.specs.Reasons.{reason_number, reason_octet};

@@ -1,7 +1,8 @@
 // The calls with an index for C and Rust (document 02, request 3): each hands on what is lent to it to a call of `indexed`, and tells the answer in numbers.
 // They are compiled apart from those of `gneissfold`, so that a hub which keeps no index links none of this, and neither takes more stack for the other.
 #![tactic(auto)]
-ghost use Rattle.words.specs.Basics.{◌≡◌};
+
+ghost use Rattle.std.specs.Prelude.{◌≡◌};
 ghost use Rattle.words.specs.Names.{device};
 ghost use Rattle.rules.specs.Frame.{lent};
 ghost use Rattle.index_rules.specs.Calls.{indexed, message_indexed, release_indexed};

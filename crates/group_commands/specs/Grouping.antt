@@ -1,5 +1,5 @@
 -- What Delete Group answers: a code, and the tables that were lent, changed where the code is 0x00.
-use Rattle.words.specs.Basics.{List, ℕ}
+use Rattle.std.specs.Prelude.{List, ℕ}
 use Rattle.rules.specs.Types.{GroupAddress, Code, Binds, Groups, Members}
 use Rattle.rules.specs.Tables.{addressed, wipe, written}
 use Rattle.rules.specs.Layout.{size, to_this_group, in_group}

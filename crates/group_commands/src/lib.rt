@@ -1,7 +1,7 @@
 // Delete Group, Add to Group, Remove from Group (document 01, Commands and codes).
 #![tactic(auto)]
 
-ghost use Rattle.words.specs.Basics.{◌≡◌, ◌%◌, ◌<◌, length};
+ghost use Rattle.std.specs.Prelude.{◌≡◌, ◌%◌, ◌<◌, length};
 ghost use Rattle.words.specs.Names.{invalid_argument};
 ghost use Rattle.rules.specs.Types.{Devices, Binds, Groups, Members};
 ghost use Rattle.rules.specs.Lists.{ask, any};

@@ -1,5 +1,5 @@
 -- What Get Group Info answers: the payload of its reply.
-use Rattle.words.specs.Basics.{List, [], ◌∷◌, ℕ}
+use Rattle.std.specs.Prelude.{List, [], ◌∷◌, ℕ}
 use Rattle.rules.specs.Types.{GroupAddress, Code}
 use Rattle.rules.specs.Tables.{Rec}
 use Rattle.rules.specs.Commands.{naming, group_info, on_ok}

@@ -1,6 +1,7 @@
 // Get Group Info (document 01, Commands and codes): a group's name and its members.
 #![tactic(auto)]
-ghost use Rattle.words.specs.Basics.{◌≡◌, true, ◌∷◌, ◌+◌, ◌*◌, ◌≤◌, length};
+
+ghost use Rattle.std.specs.Prelude.{◌≡◌, true, ◌∷◌, ◌+◌, ◌*◌, ◌≤◌, length};
 ghost use Rattle.words.specs.Names.{ok, header_length, longest};
 ghost use Rattle.rules.specs.Types.{Groups, Members};
 ghost use Rattle.rules.specs.Lists.{all};

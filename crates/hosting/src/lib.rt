@@ -1,6 +1,7 @@
 // The two calls of the host (document 01, Outcomes): a device is admitted, a device is released. Each looks first, and writes only on outcome 0.
 #![tactic(auto)]
-ghost use Rattle.words.specs.Basics.{◌≡◌, List, ℕ, ◌%◌, length};
+
+ghost use Rattle.std.specs.Prelude.{◌≡◌, List, ℕ, ◌%◌, length};
 ghost use Rattle.rules.specs.Types.{Devices, Binds, Members, Sessions};
 ghost use Rattle.rules.specs.Lists.{any};
 ghost use Rattle.rules.specs.Tables.{used, wipe, written};

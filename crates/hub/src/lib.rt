@@ -2,7 +2,7 @@
 // command is served, or its recipients are listed.
 #![tactic(auto)]
 
-ghost use Rattle.words.specs.Basics.{◌≡◌};
+ghost use Rattle.std.specs.Prelude.{◌≡◌};
 ghost use Rattle.rules.specs.Types.{NoFault};
 ghost use Rattle.rules.specs.Frame.{lent};
 ghost use Rattle.rules.specs.Calls.{explaining, message};

@@ -1,6 +1,6 @@
 -- The calls that are lent the index (document 02, request 3): "Refusals: 30, index of wrong length or content, straight after 16". All else is the plain
 -- call's.
-use Rattle.words.specs.Basics.{List, ℕ}
+use Rattle.std.specs.Prelude.{List, ℕ}
 use Rattle.rules.specs.Types.{DeviceAddress, Binds, Unsound, NoRoom, WrongIndex, Way, Refuse}
 use Rattle.rules.specs.Lists.{ask}
 use Rattle.rules.specs.Frame.{Lent, tables}

@@ -1,7 +1,7 @@
 -- The index of the bind table (document 02, request 3): "one octet for each used record, its position in the table from 0, ordered by source device, unit,
 -- UID and interface type, ties by position, then 0xFF to the end".
-use Rattle.words.specs.Basics.{◌≡◌, Bool, true, false, cond, not, ◌&&◌, ◌||◌, List, [], ◌∷◌, ◌++◌, map, ℕ, suc, ◌+◌, ◌-◌, ◌*◌, ◌%◌, eqb, ltb, length, replicate}
-use Rattle.words.specs.Basics.{get_or}
+use Rattle.std.specs.Prelude.{◌≡◌, Bool, true, false, cond, not, ◌&&◌, ◌||◌, List, [], ◌∷◌, ◌++◌, map, ℕ, suc, ◌+◌, ◌-◌, ◌*◌, ◌%◌, eqb, ltb, length, replicate}
+use Rattle.std.specs.Prelude.{get_or}
 use Rattle.rules.specs.Lists.{all, has, ◌&◌}
 use Rattle.rules.specs.Units.{ordered}
 use Rattle.rules.specs.Tables.{Rec, free, is_free}

@@ -1,6 +1,6 @@
 -- Runs of indexed calls (document 02, request 3): "For the indexed calls condition 3 starts with the index of that length, all 0xFF, written by nobody else,
 -- and lends it to each call that changes binds."
-use Rattle.words.specs.Basics.{◌≡◌, true, List, [], ◌∷◌, ℕ, length, replicate}
+use Rattle.std.specs.Prelude.{◌≡◌, true, List, [], ◌∷◌, ℕ, length, replicate}
 use Rattle.words.specs.declared.Decoded.TheVariants.{Is}
 use Rattle.rules.specs.Types.{Binds, GetGroupInfo}
 use Rattle.rules.specs.Lists.{all}

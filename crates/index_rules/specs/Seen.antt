@@ -1,5 +1,5 @@
 -- What callers see of a chain of calls with an index beside the tables, "written by nobody else": each call met its contract, on what the call before it left.
-use Rattle.words.specs.Basics.{◌≡◌, true, List, [], ◌∷◌, ℕ}
+use Rattle.std.specs.Prelude.{◌≡◌, true, List, [], ◌∷◌, ℕ}
 use Rattle.rules.specs.Types.{Binds}
 use Rattle.rules.specs.Frame.{tables}
 use Rattle.rules.specs.History.{Call, Said, Event}

@@ -1,5 +1,5 @@
 -- What the code does with an index, entry by entry: cited by contracts inside, and by no public call, so that a reader need not believe it.
-use Rattle.words.specs.Basics.{◌≡◌, Bool, true, false, cond, ◌&&◌, List, [], ◌∷◌, ◌++◌, map, ℕ, suc, ◌-◌, ◌*◌, ◌^◌, ◌≤◌, eqb, leb, ltb, length, take, drop}
+use Rattle.std.specs.Prelude.{◌≡◌, Bool, true, false, cond, ◌&&◌, List, [], ◌∷◌, ◌++◌, map, ℕ, suc, ◌-◌, ◌*◌, ◌^◌, ◌≤◌, eqb, leb, ltb, length, take, drop}
 use Rattle.words.specs.Names.{any_device}
 use Rattle.rules.specs.Types.{Fields}
 use Rattle.rules.specs.Lists.{count, all, keep, ◌&◌}

@@ -1,6 +1,7 @@
 // The public calls that are lent the index of the bind table (document 02, request 3), beside the plain ones of `hub`.
 #![tactic(auto)]
-ghost use Rattle.words.specs.Basics.{◌≡◌};
+
+ghost use Rattle.std.specs.Prelude.{◌≡◌};
 ghost use Rattle.rules.specs.Frame.{lent};
 ghost use Rattle.rules.specs.Host.{host_answer};
 ghost use Rattle.rules.specs.Calls.{explaining};

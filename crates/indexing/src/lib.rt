@@ -3,7 +3,7 @@
 
 mod searching;
 
-ghost use Rattle.words.specs.Basics.{◌≡◌, ◌+◌, ◌*◌, ◌/◌, ◌^◌, ◌<◌, ◌≤◌, leb, length, take};
+ghost use Rattle.std.specs.Prelude.{◌≡◌, ◌+◌, ◌*◌, ◌/◌, ◌^◌, ◌<◌, ◌≤◌, leb, length, take};
 ghost use Rattle.rules.specs.Types.{Binds};
 ghost use Rattle.rules.specs.Lists.{◌&◌};
 ghost use Rattle.rules.specs.Layout.{size, full};

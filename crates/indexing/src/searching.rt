@@ -1,5 +1,5 @@
 // Where a rank stands in an index: its entries go by rising rank, so it is found by halving.
-ghost use Rattle.words.specs.Basics.{◌≡◌, ◌≤◌, length};
+ghost use Rattle.std.specs.Prelude.{◌≡◌, ◌≤◌, length};
 ghost use Rattle.rules.specs.Types.{Binds};
 ghost use Rattle.rules.specs.Frame.{table};
 ghost use Rattle.index_rules.specs.Walks.{ranked, Listed};

@@ -1,7 +1,8 @@
 // What an indexed call decides and does (document 02, request 3): as the plain call, with the index asked behind the tables, searched where binds are looked
 // for, and kept right where they change.
 #![tactic(auto)]
-ghost use Rattle.words.specs.Basics.{◌≡◌, [], List, ℕ, ◌%◌, ◌≤◌, length};
+
+ghost use Rattle.std.specs.Prelude.{◌≡◌, [], List, ℕ, ◌%◌, ◌≤◌, length};
 ghost use Rattle.rules.specs.Types.{Devices, Binds, Members, Sessions};
 ghost use Rattle.rules.specs.Layout.{size, full};
 ghost use Rattle.rules.specs.Frame.{Lent, lent, nothing_lent, beside, table, tables};

@@ -4,7 +4,7 @@
 
 mod members;
 
-ghost use Rattle.words.specs.Basics.{◌≡◌, ◌+◌, ◌^◌, ◌<◌, ◌≤◌, length};
+ghost use Rattle.std.specs.Prelude.{◌≡◌, ◌+◌, ◌^◌, ◌<◌, ◌≤◌, length};
 ghost use Rattle.rules.specs.Octets.{octets};
 ghost use Rattle.rules.specs.Units.{unit_number, unit_at};
 ghost use Rattle.rules.specs.Layout.{size, most, key, group_record, longest_name};

@@ -1,5 +1,5 @@
 // A member's five octets: group, device, unit.
-ghost use Rattle.words.specs.Basics.{◌≡◌, ◌+◌, ◌≤◌, length, take, drop};
+ghost use Rattle.std.specs.Prelude.{◌≡◌, ◌+◌, ◌≤◌, length, take, drop};
 ghost use Rattle.rules.specs.Types.{Members};
 ghost use Rattle.rules.specs.Layout.{size, member_group, member_device, member_unit};
 

@@ -1,6 +1,6 @@
 -- The text of `links` (document 01, Rows to try): four tables at full size and then the message, answered with all sessions free, a reply and a list of
 -- zeros.
-use Rattle.words.specs.Basics.{cond, List, ℕ, ◌+◌, ◌*◌, ltb, length, take, drop, replicate}
+use Rattle.std.specs.Prelude.{cond, List, ℕ, ◌+◌, ◌*◌, ltb, length, take, drop, replicate}
 use Rattle.words.specs.Names.{longest}
 use Rattle.rules.specs.Types.{Reason, NoFault, Devices, Binds, Groups, Members, Sessions}
 use Rattle.rules.specs.Tables.{free}

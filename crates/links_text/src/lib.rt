@@ -1,7 +1,8 @@
 // What the program `links` prints for its input, made over lent buffers (document 01, Rows to try), and why an Add Bind is answered 0x02 (document 02,
 // request 6).
 #![tactic(auto)]
-ghost use Rattle.words.specs.Basics.{◌≡◌, ◌≤◌, length};
+
+ghost use Rattle.std.specs.Prelude.{◌≡◌, ◌≤◌, length};
 ghost use Rattle.writing.specs.Writing.{Printed};
 ghost use Rattle.links_text.specs.Printing.{all_tables, printed, reasoned};
 

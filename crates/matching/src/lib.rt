@@ -1,7 +1,7 @@
 // Which records a message is about (document 01, Recipients): the binds that match it, the members of a group.
 #![tactic(auto)]
 
-ghost use Rattle.words.specs.Basics.{◌≡◌, ◌+◌, ◌^◌, ◌<◌, ◌≤◌, length, take, drop};
+ghost use Rattle.std.specs.Prelude.{◌≡◌, ◌+◌, ◌^◌, ◌<◌, ◌≤◌, length, take, drop};
 ghost use Rattle.rules.specs.Types.{Binds, Members};
 ghost use Rattle.rules.specs.Layout.{size, member_number, in_group};
 ghost use Rattle.rules.specs.Message.{sender};

@@ -1,5 +1,5 @@
 -- What the writer of a header asks of what it is given.
-use Rattle.words.specs.Basics.{◌<◌}
+use Rattle.std.specs.Prelude.{◌<◌}
 use Rattle.rules.specs.Types.{Fields}
 
 -- fields that a header has room for (document 01, The message): flags of one bit, addresses and UIDs of fifteen

@@ -1,7 +1,7 @@
 // The message (document 01, The message): reading it, what its fields say, and the header of a reply.
 #![tactic(auto)]
 
-ghost use Rattle.words.specs.Basics.{◌≡◌, ◌+◌, ◌-◌, ◌≤◌, eqb, leb, length};
+ghost use Rattle.std.specs.Prelude.{◌≡◌, ◌+◌, ◌-◌, ◌≤◌, eqb, leb, length};
 ghost use Rattle.words.specs.Names.{no_fields, header_length, longest, command_type, last_type};
 ghost use Rattle.rules.specs.Lists.{◌&◌};
 ghost use Rattle.rules.specs.Octets.{octets, over};

@@ -1,5 +1,5 @@
 -- The binds near a message reach whom all binds reach.
-use Rattle.words.specs.Basics.{◌≡◌, refl, sym, ◌∙◌, Bool, true, false, false≢true, not, List, map, ℕ, ◌<◌, ◌≤◌, arith, length, get_or}
+use Rattle.words.specs.Basics.{◌≡◌, refl, sym, ◌∙◌, Bool, true, false≢true, not, List, map, ℕ, ◌<◌, ◌≤◌, arith, length, get_or}
 use Rattle.words.specs.declared.Destination.{Destination}
 use Rattle.rules.specs.Types.{Fields, Concentrator, BindAddress, Unit, Group, Binds, Members}
 use Rattle.rules.specs.Lists.{has}

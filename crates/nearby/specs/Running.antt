@@ -1,5 +1,5 @@
 -- Runs of an index, entry by entry (document 02, request 3), and which messages go by it.
-use Rattle.words.specs.Basics.{◌≡◌, Bool, true, false, List, map, ℕ, suc, ◌-◌, ◌<◌, ◌≤◌, length, take, drop, get_or}
+use Rattle.std.specs.Prelude.{◌≡◌, Bool, true, false, List, map, ℕ, suc, ◌-◌, ◌<◌, ◌≤◌, length, take, drop, get_or}
 use Rattle.words.specs.declared.Destination.{Destination}
 use Rattle.rules.specs.Types.{Fields, Concentrator, BindAddress, Unit, Group}
 use Rattle.rules.specs.Tables.{Rec}

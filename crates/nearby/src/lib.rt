@@ -1,7 +1,8 @@
 // Who gets a message, by the index of the bind table (document 02, request 3). A bind that matches is of the sender's device or of any device: these stand in
 // two runs of entries, whose ends are found by halving, and no other bind is taken.
 #![tactic(auto)]
-ghost use Rattle.words.specs.Basics.{◌≡◌, suc};
+
+ghost use Rattle.std.specs.Prelude.{◌≡◌, suc};
 ghost use Rattle.rules.specs.Types.{Binds, Members};
 ghost use Rattle.rules.specs.Frame.{table};
 ghost use Rattle.rules.specs.Recipients.{recipients};

@@ -1,7 +1,8 @@
 // Octets and 16-bit words. A word's top bit is a flag and the rest a number (document 01, Tables); runs of octets are compared, tested, written and filled.
 #![tactic(auto)]
 
-ghost use Rattle.words.specs.Basics.{◌≡◌, ◌+◌, ◌*◌, ◌/◌, ◌%◌, ◌<◌, ◌≤◌, eqb, length, take, drop, replicate, sets};
+ghost use Rattle.std.specs.Prelude.{◌≡◌, ◌+◌, ◌*◌, ◌/◌, ◌%◌, ◌<◌, ◌≤◌, eqb, length, take, drop, replicate};
+ghost use Rattle.std.proofs.lemmas.List.Edits.{sets};
 ghost use Rattle.rules.specs.Lists.{all};
 ghost use Rattle.rules.specs.Octets.{bit, word, starts, over};
 

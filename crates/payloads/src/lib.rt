@@ -1,7 +1,7 @@
 // What a payload says (document 01, Tables): the top bit of a source, a group's or a member's address is ignored, and stored as 0.
 #![tactic(auto)]
 
-ghost use Rattle.words.specs.Basics.{◌≡◌, cond, ◌%◌, ◌<◌, eqb, length, take};
+ghost use Rattle.std.specs.Prelude.{◌≡◌, cond, ◌%◌, ◌<◌, eqb, length, take};
 ghost use Rattle.rules.specs.Types.{Source, Binds, Members};
 ghost use Rattle.rules.specs.Layout.{size, address_length, part_start, part_length};
 ghost use Rattle.rules.specs.Payloads.{bind_of, wanted, member_of, group_named};

@@ -1,5 +1,5 @@
 -- A reason in words (document 02, request 6), as ASCII octets.
-use Rattle.words.specs.Basics.{cond, List, [], ◌++◌, ℕ}
+use Rattle.std.specs.Prelude.{cond, List, [], ◌++◌, ℕ}
 use Rattle.words.specs.Reasons.{reason_number, reason_octet, faultless}
 use Rattle.rules.specs.Types.{Reason, NoFault, PayloadLength, NoSourceDevice, NoSourceUnit, DestinationUnitFF, NoDestinationDevice, NoDestinationUnit}
 use Rattle.rules.specs.Types.{NoGroup, BoundToItself, AlreadyPresent}

@@ -1,6 +1,7 @@
 // A reason in words that a fitter understands (document 02, request 6).
 #![tactic(auto)]
-ghost use Rattle.words.specs.Basics.{◌+◌, ◌≤◌, length};
+
+ghost use Rattle.std.specs.Prelude.{◌+◌, ◌≤◌, length};
 ghost use Rattle.writing.specs.Writing.{Wrote, Printed};
 ghost use Rattle.reason_text.specs.Saying.{sentence, reason_text};
 

@@ -1,5 +1,5 @@
 -- What a search asks of one record, and where it ends.
-use Rattle.words.specs.Basics.{Bool, cond, not, ◌&&◌, List, [], ◌∷◌, ℕ, ◌+◌}
+use Rattle.std.specs.Prelude.{Bool, cond, not, ◌&&◌, List, [], ◌∷◌, ℕ, ◌+◌}
 use Rattle.rules.specs.Tables.{Rec, is_free}
 use Rattle.records.specs.declared.Found.{Found}
 use Rattle.records.specs.declared.Found.TheVariants.{At, Nothing}

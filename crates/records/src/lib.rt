@@ -1,7 +1,7 @@
 // Records of one size, one after the other (document 01, Tables): found, added and removed.
 #![tactic(auto)]
 
-ghost use Rattle.words.specs.Basics.{◌≡◌, ◌+◌, ◌%◌, ◌<◌, ◌≤◌, length, take, drop};
+ghost use Rattle.std.specs.Prelude.{◌≡◌, ◌+◌, ◌%◌, ◌<◌, ◌≤◌, length, take, drop};
 ghost use Rattle.rules.specs.Lists.{any};
 ghost use Rattle.rules.specs.Tables.{records, is_free, used, some_free, matches, written, store, wipe};
 ghost use Rattle.records.specs.Search.{passes, found_at};

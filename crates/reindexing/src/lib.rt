@@ -2,7 +2,7 @@
 // and the one that was added goes where its rank belongs. An addition takes the first free record, so that its position is known before.
 #![tactic(auto)]
 
-ghost use Rattle.words.specs.Basics.{◌≡◌, ◌≤◌, length};
+ghost use Rattle.std.specs.Prelude.{◌≡◌, ◌≤◌, length};
 ghost use Rattle.rules.specs.Types.{Binds};
 ghost use Rattle.rules.specs.Layout.{full};
 ghost use Rattle.rules.specs.Frame.{table};

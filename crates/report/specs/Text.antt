@@ -1,9 +1,10 @@
 -- The text that the program `links` prints (document 01, Rows to try), as ASCII octets.
-use Rattle.words.specs.Basics.{cond, List, [], ◌++◌, flat_map, ℕ, zero, suc, ◌+◌, ◌-◌, ◌*◌, ◌≤◌, eqb, length, take, drop}
+use Rattle.std.specs.Prelude.{cond, List, [], ◌++◌, ℕ, zero, suc, ◌*◌, ◌≤◌, eqb, length, take, drop}
+use mathlib.Core.List.{flat_map}
 use Rattle.rules.specs.Types.{Outcome}
 use Rattle.rules.specs.Octets.{octet}
 use Rattle.words.specs.Outcomes.{number_of, value_of}
-use Rattle.writing.specs.Writing.{ascii, line, hex_octet, digits, field}
+use Rattle.writing.specs.Writing.{ascii, line, hex_octet, field}
 
 -- "device and unit in upper-case hex: four digits, a colon, two digits", from a recipient's three octets
 abbrev pub recipient_line : ℕ → ℕ → ℕ → List ℕ

@@ -1,6 +1,7 @@
 // The text that `links` prints (document 01, Rows to try).
 #![tactic(auto)]
-ghost use Rattle.words.specs.Basics.{◌≡◌, ◌+◌, ◌*◌, ◌<◌, ◌≤◌, length};
+
+ghost use Rattle.std.specs.Prelude.{◌≡◌, ◌+◌, ◌*◌, ◌<◌, ◌≤◌, length};
 ghost use Rattle.writing.specs.Writing.{digit, Wrote, Printed};
 ghost use Rattle.report.specs.Text.{recipient_line, recipient_lines, hex_line, first_line, value_if, answer_text, short_text, Room};
 
@@ -58,6 +59,7 @@ fn write_reply(text: &mut [u8], at: usize, reply: &[u8]) -> usize
 }
 
 // The count or length of the outcome that has this number; another outcome's is not printed.
+#[tactic(auto, unfolding(crate::specs::Text::value_if))]
 fn value_if(number: u8, outcome: Outcome) -> usize
     ensures { result ≡ value_if number outcome }
 {

@@ -1,5 +1,5 @@
 -- A message, whole (document 01, Outcomes): the order of its outcomes, and what every lent octet holds after it.
-use Rattle.words.specs.Basics.{Bool, true, false, not, List, [], ◌∷◌, ℕ, ◌+◌, ◌*◌, ◌/◌, max, leb, length}
+use Rattle.std.specs.Prelude.{Bool, true, false, not, List, [], ◌∷◌, ℕ, ◌+◌, ◌*◌, ◌/◌, max, leb, length}
 use Rattle.words.specs.Names.{header_length, longest}
 use Rattle.words.specs.declared.Decoded.TheVariants.{Is, NotServed}
 use Rattle.words.specs.declared.Destination.{Destination}

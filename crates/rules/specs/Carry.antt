@@ -1,6 +1,6 @@
 -- Old device tables carried over (document 02, request 2). In an old record of 4 octets a device has units 0 to its highest; a new one has them as a set.
 -- This call is made once, before the first call on the new table, and is no part of condition 3's runs.
-use Rattle.words.specs.Basics.{Bool, true, cond, List, map, ℕ, ◌*◌, eqb, leb, length, replicate}
+use Rattle.std.specs.Prelude.{Bool, true, cond, List, map, ℕ, ◌*◌, eqb, leb, length, replicate}
 use Rattle.words.specs.Names.{device, concentrator, highest_unit}
 use Rattle.words.specs.Outcomes.{number_of}
 use Rattle.rules.specs.Types.{DeviceAddress, Devices, Outcome, Done, Unsound, NoRoom}

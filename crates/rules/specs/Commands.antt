@@ -1,6 +1,6 @@
 -- The commands (document 01, Commands and codes): a row for each, with its checks and codes in the paper's order, what it changes, and what its
 -- reply has behind 0x00.
-use Rattle.words.specs.Basics.{Bool, true, false, cond, not, ◌||◌, List, [], ◌∷◌, ◌++◌, ℕ, zero, suc, ◌+◌, eqb, leb, length}
+use Rattle.std.specs.Prelude.{Bool, true, false, cond, not, ◌||◌, List, [], ◌∷◌, ◌++◌, ℕ, zero, suc, ◌+◌, eqb, leb, length}
 use Rattle.words.specs.Names.{ok, not_authorized, invalid_argument, no_read_session, not_enough_resources, unknown_reason, group, lowest}
 use Rattle.words.specs.Reasons.{faultless}
 use Rattle.rules.specs.Types.{DeviceAddress, GroupAddress, Code, Reason, NoFault, Command, AddBind, RemoveBinds, StartSession, EndSession, GetEntries}

@@ -1,5 +1,6 @@
 -- "A copy equals the message but for octets 4 to 6: type 0, device, unit." (document 01, Recipients)
-use Rattle.words.specs.Basics.{Bool, not, List, [], ◌∷◌, ◌++◌, ℕ, eqb, leb, length, sets}
+use Rattle.std.specs.Prelude.{Bool, not, List, [], ◌∷◌, ◌++◌, ℕ, eqb, leb, length}
+use Rattle.std.proofs.lemmas.List.Edits.{sets}
 use Rattle.words.specs.Names.{highest, not_a_unit}
 use Rattle.rules.specs.Types.{DeviceAddress, Outcome, Done, NoCopy}
 use Rattle.rules.specs.Lists.{ask, ◌&◌}

@@ -1,5 +1,5 @@
 -- What exists (document 01, Tables): units, devices, groups, rights.
-use Rattle.words.specs.Basics.{Bool, true, cond, List, ℕ, eqb}
+use Rattle.std.specs.Prelude.{Bool, true, cond, List, ℕ, eqb}
 use Rattle.words.specs.Names.{concentrator}
 use Rattle.rules.specs.Types.{DeviceAddress, GroupAddress}
 use Rattle.rules.specs.Lists.{any, ◌&◌}

@@ -1,6 +1,6 @@
 -- What a caller is promised of the reason (document 02, request 6): it is given where an Add Bind is answered 0x02, and only there, so that the code on the
 -- air and the reason cannot disagree.
-use Rattle.words.specs.Basics.{◌≡◌, Bool, true, false, List, ℕ, eqb}
+use Rattle.std.specs.Prelude.{◌≡◌, Bool, true, false, List, ℕ, eqb}
 use Rattle.words.specs.Names.{invalid_argument, header_length}
 use Rattle.words.specs.Outcomes.{number_of}
 use Rattle.words.specs.Reasons.{faultless}

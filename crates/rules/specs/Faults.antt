@@ -1,5 +1,5 @@
 -- What is wrong with a bind, and with an Add Bind (document 01, Commands and codes; document 02, requests 4 and 6): the nine reasons.
-use Rattle.words.specs.Basics.{Bool, true, not, ◌||◌, List, ℕ, eqb, length}
+use Rattle.std.specs.Prelude.{Bool, true, not, ◌||◌, List, ℕ, eqb, length}
 use Rattle.words.specs.Names.{not_a_unit}
 use Rattle.rules.specs.Types.{Reason, NoFault, PayloadLength, NoSourceDevice, NoSourceUnit, DestinationUnitFF, NoDestinationDevice, NoDestinationUnit}
 use Rattle.rules.specs.Types.{NoGroup, BoundToItself, AlreadyPresent, Binds}

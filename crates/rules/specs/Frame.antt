@@ -1,6 +1,6 @@
 -- All lent tables as one frame: one of them by its kind, and what a call does to each. What a command looks at and changes is said by kind, so that a
 -- further table changes no command.
-use Rattle.words.specs.Basics.{Bool, cond, List, [], ◌∷◌, ℕ, eqb}
+use Rattle.std.specs.Prelude.{Bool, cond, List, [], ◌∷◌, ℕ, eqb}
 use Rattle.rules.specs.Types.{Kind, Devices, Binds, Groups, Members, Sessions}
 use Rattle.rules.specs.Lists.{all}
 use Rattle.rules.specs.Tables.{Rec, records, Change, none, written}

@@ -1,7 +1,7 @@
 -- Condition 3's words, read from the calls and their answers alone: a run, its history, what stands, what is linked, what is counted.
 -- Nothing here looks into a table, and nothing of what a call does to a table is used to say what it adds or withdraws: a payload is told in numbers here,
 -- where the tables compare octets. A message's fields and command, and the places of a record's fields, are those of condition 2 (docs/DECISIONS.md, 20).
-use Rattle.words.specs.Basics.{◌≡◌, Bool, true, false, cond, not, ◌||◌, List, [], ◌∷◌, ◌++◌, ℕ, ◌+◌, eqb, length, drop}
+use Rattle.std.specs.Prelude.{◌≡◌, Bool, true, false, cond, not, ◌||◌, List, [], ◌∷◌, ◌++◌, ℕ, ◌+◌, eqb, length, drop}
 use Rattle.words.specs.Names.{concentrator, any_device, any_unit, any_interface, device, group, ok, header_length}
 use Rattle.words.specs.declared.BindPart.TheVariants.{Whole, Source, SourceUnit, Destination, DestinationUnit}
 use Rattle.words.specs.Outcomes.{number_of}

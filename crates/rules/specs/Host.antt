@@ -1,5 +1,5 @@
 -- The two host calls (document 01, Outcomes): admit a device with its rights and its set of units, and release a device.
-use Rattle.words.specs.Basics.{Bool, cond, not, ◌||◌, List, ℕ, eqb}
+use Rattle.std.specs.Prelude.{Bool, cond, not, ◌||◌, List, ℕ, eqb}
 use Rattle.words.specs.Outcomes.{number_of}
 use Rattle.rules.specs.Types.{DeviceAddress, Devices, Binds, Members, Sessions, Outcome, Done, Unsound, OutOfRange, AlreadyAdmitted, NoFreeRecord}
 use Rattle.rules.specs.Types.{NotAdmitted}

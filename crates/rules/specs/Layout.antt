@@ -1,6 +1,6 @@
 -- The records (document 01, Tables; a device's: document 02, request 2; a session's: request 1): how many octets each has, how many there may be, where
 -- its fields stand, and how it is built from them. No other file knows the place of a field, but for an old device's, which stand in `Carry`.
-use Rattle.words.specs.Basics.{Bool, List, [], ◌∷◌, ◌++◌, ℕ, zero, suc, ◌+◌, ◌-◌, ◌*◌, ◌/◌, ◌%◌, ◌^◌, min, eqb, length, take, drop, replicate}
+use Rattle.std.specs.Prelude.{Bool, List, [], ◌∷◌, ◌++◌, ℕ, zero, suc, ◌+◌, ◌-◌, ◌*◌, ◌/◌, ◌%◌, ◌^◌, min, eqb, length, take, drop, replicate}
 use Rattle.words.specs.Names.{device, group, flag_set, any_device, any_unit, any_interface}
 use Rattle.words.specs.declared.BindPart.TheVariants.{Whole, Source, SourceUnit, Destination, DestinationUnit}
 use Rattle.rules.specs.Types.{DeviceAddress, GroupAddress, BindPart, Kind, Devices, Binds, Groups, Members, Sessions}

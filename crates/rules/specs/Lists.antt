@@ -1,5 +1,5 @@
 -- Lists tested by a Boolean: how many elements pass, whether one does, whether all do, and those that do.
-use Rattle.words.specs.Basics.{Bool, true, false, cond, ◌&&◌, ◌||◌, List, [], ◌∷◌, ℕ, suc, eqb}
+use Rattle.std.specs.Prelude.{Bool, true, false, cond, ◌&&◌, ◌||◌, List, [], ◌∷◌, ℕ, suc, eqb}
 
 -- "and" that stays shut, so that a law about it finds its arguments
 infixl 35 ◌&◌

@@ -1,5 +1,5 @@
 -- The message (document 01, The message; document 003, 7): its fields, when it is refused, and the header of a reply.
-use Rattle.words.specs.Basics.{Bool, cond, List, ◌∷◌, ◌++◌, ℕ, ◌-◌, ◌%◌, eqb, leb, length, drop}
+use Rattle.std.specs.Prelude.{Bool, cond, List, ◌∷◌, ◌++◌, ℕ, ◌-◌, ◌%◌, eqb, leb, length, drop}
 use Rattle.words.specs.Names.{no_fields, device, group, concentrator, bind_address, not_a_unit, header_length, payload_place, longest, flag_set}
 use Rattle.words.specs.Names.{command_type, response_type, last_type, response_types}
 use Rattle.words.specs.declared.Destination.{Destination}

@@ -1,6 +1,6 @@
 -- Octets, and 16-bit words of two octets, most significant first (document 01, The message). A word's top bit is its flag, the rest its number.
 -- Places are counted from 0 in all definitions, and from 1 in the paper: its octet 4 stands at place 3.
-use Rattle.words.specs.Basics.{Bool, true, false, ◌&&◌, List, [], ◌∷◌, ◌++◌, ℕ, ◌+◌, ◌*◌, ◌/◌, ◌%◌, ◌^◌, eqb, leb, length, drop, get_or}
+use Rattle.std.specs.Prelude.{Bool, true, false, ◌&&◌, List, [], ◌∷◌, ◌++◌, ℕ, ◌+◌, ◌*◌, ◌/◌, ◌%◌, ◌^◌, eqb, leb, length, drop, get_or}
 use Rattle.rules.specs.Lists.{all}
 
 -- the octet at place i

@@ -1,5 +1,5 @@
 -- Which message is which command (document 01, Commands and codes; document 000, 6.2.5 and 6.3.5), and what its payload says.
-use Rattle.words.specs.Basics.{cond, List, ◌++◌, ℕ, eqb, leb, take, drop}
+use Rattle.std.specs.Prelude.{cond, List, ◌++◌, ℕ, eqb, leb, take, drop}
 use Rattle.words.specs.Names.{group, command_type, asking_type, flag_set, bind_management, group_management, add_bind, remove_bind, remove_by_source, remove_by_source_unit}
 use Rattle.words.specs.Names.{remove_by_destination, remove_by_destination_unit, start_session, end_session, get_by_index, get_by_source, get_by_source_unit}
 use Rattle.words.specs.Names.{get_by_destination, get_by_destination_unit, create_group, delete_group, add_to_group, remove_from_group, get_group_info}

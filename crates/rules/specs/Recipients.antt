@@ -1,5 +1,6 @@
 -- Recipients (document 01, Recipients): who gets a message of each kind of destination.
-use Rattle.words.specs.Basics.{Bool, cond, ◌||◌, List, [], ◌∷◌, map, flat_map, ℕ, eqb}
+use Rattle.std.specs.Prelude.{Bool, cond, ◌||◌, List, [], ◌∷◌, map, ℕ, eqb}
+use mathlib.Core.List.{flat_map}
 use Rattle.words.specs.declared.Destination.{Destination}
 use Rattle.rules.specs.Types.{GroupAddress, Fields, Concentrator, BindAddress, Unit, Group}
 use Rattle.rules.specs.Lists.{keep, ◌&◌}

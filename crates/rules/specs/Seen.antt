@@ -1,6 +1,6 @@
 -- What callers see of a chain of calls: each call met its contract, on the tables that the call before it left. And condition 3 of what they saw, and what
 -- they read back, in terms of what was told, of the tables as they now are, and of the contract of one more call.
-use Rattle.words.specs.Basics.{◌≡◌, true, List, [], ◌∷◌, ◌++◌, map, ℕ, length}
+use Rattle.std.specs.Prelude.{◌≡◌, true, List, [], ◌∷◌, ◌++◌, map, ℕ, length}
 use Rattle.words.specs.declared.Decoded.TheVariants.{Is}
 use Rattle.rules.specs.Types.{StartSession, GetEntries, Filter, GetGroupInfo, Binds}
 use Rattle.rules.specs.Lists.{all}

@@ -1,5 +1,5 @@
 -- Reading binds back (document 02, request 1; document 000, 6.2.5.7 to 6.2.5.13): who has a read session, what closes it, and which binds a read gives.
-use Rattle.words.specs.Basics.{Bool, true, false, cond, List, ◌∷◌, ℕ, ◌+◌, ◌-◌, ◌/◌, min, length, take, drop}
+use Rattle.std.specs.Prelude.{Bool, true, false, cond, List, ◌∷◌, ℕ, ◌+◌, ◌-◌, ◌/◌, min, length, take, drop}
 use Rattle.words.specs.Names.{header_length, longest}
 use Rattle.rules.specs.Types.{DeviceAddress, Filter, Index, Part, Binds, Sessions}
 use Rattle.rules.specs.Lists.{any, keep}

@@ -1,6 +1,6 @@
 -- What closes a read session, over all calls; and what is read back is the sheet: the fitter compares the binds that a read gives with the binds that
 -- stand by history. Like condition 3 that is read from calls and answers alone (docs/HISTORY.md).
-use Rattle.words.specs.Basics.{◌≡◌, Bool, true, false, List, [], ◌∷◌, ◌++◌, ℕ, ◌*◌, min, length, take, drop}
+use Rattle.std.specs.Prelude.{◌≡◌, Bool, true, false, List, [], ◌∷◌, ◌++◌, ℕ, ◌*◌, min, length, take, drop}
 use Rattle.words.specs.Names.{header_length}
 use Rattle.words.specs.declared.Decoded.TheVariants.{Is}
 use Rattle.rules.specs.Types.{DeviceAddress, StartSession, GetEntries, Filter, Index, Part, Binds, Sessions}

@@ -1,5 +1,5 @@
 -- "Tables are sound if" (document 01, Tables; of sessions document 02, request 1)
-use Rattle.words.specs.Basics.{Bool, true, not, ◌&&◌, ◌||◌, List, [], ◌∷◌, ℕ, ◌*◌, ◌%◌, eqb, leb, length, take}
+use Rattle.std.specs.Prelude.{Bool, true, not, ◌&&◌, ◌||◌, List, [], ◌∷◌, ℕ, ◌*◌, ◌%◌, eqb, leb, length, take}
 use Rattle.words.specs.Names.{lowest, highest, not_a_unit}
 use Rattle.words.specs.Reasons.{faultless}
 use Rattle.rules.specs.Types.{DeviceAddress, Kind, Devices, Binds, Groups, Members, Sessions}

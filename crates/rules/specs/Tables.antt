@@ -1,5 +1,5 @@
 -- Tables (document 01, Tables): records of one fixed size, one after the other, no header. A free record is all 0xFF.
-use Rattle.words.specs.Basics.{Bool, cond, not, List, [], ◌∷◌, ◌++◌, map, ℕ, zero, suc, ◌/◌, eqb, length, take, drop}
+use Rattle.std.specs.Prelude.{Bool, cond, not, List, [], ◌∷◌, ◌++◌, map, ℕ, zero, suc, ◌/◌, eqb, length, take, drop}
 use Rattle.rules.specs.Lists.{any, all, keep}
 use Rattle.rules.specs.Octets.{starts, octets}
 

@@ -3,7 +3,7 @@
 // printed, 66 to 68 a bind more, a removal and that bind again, 69 and 70 the names.
 #![tactic(auto)]
 
-ghost use Rattle.words.specs.Basics.{◌≡◌, ◌≤◌, length};
+ghost use Rattle.std.specs.Prelude.{◌≡◌, ◌≤◌, length};
 
 use std::io;
 use std::rt::HostRuntime;

@@ -1,5 +1,5 @@
 -- What Start and a read answer.
-use Rattle.words.specs.Basics.{cond, List, [], ◌∷◌, ℕ, length}
+use Rattle.std.specs.Prelude.{cond, List, [], ◌∷◌, ℕ, length}
 use Rattle.words.specs.Names.{no_read_session}
 use Rattle.rules.specs.Types.{DeviceAddress, Code, Filter, Binds, Sessions}
 use Rattle.rules.specs.Octets.{octets, over}

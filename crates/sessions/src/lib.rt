@@ -1,7 +1,8 @@
 // Read sessions (document 02, request 1; document 000, 6.2.5.7 to 6.2.5.13): a device opens one, reads in it and ends it, and a change to the binds
 // closes all. A session is the device's: any of its units may read or end it.
 #![tactic(auto)]
-ghost use Rattle.words.specs.Basics.{◌≡◌, true, cond, ◌+◌, ◌%◌, ◌≤◌, length};
+
+ghost use Rattle.std.specs.Prelude.{◌≡◌, true, cond, ◌+◌, ◌%◌, ◌≤◌, length};
 ghost use Rattle.words.specs.Names.{unknown_reason, header_length, longest};
 ghost use Rattle.rules.specs.Types.{Binds, Sessions};
 ghost use Rattle.rules.specs.Octets.{over};

@@ -1,5 +1,5 @@
 -- What the checks of a table ask of one record.
-use Rattle.words.specs.Basics.{Bool, not, ◌||◌, List, ℕ, take}
+use Rattle.std.specs.Prelude.{Bool, not, ◌||◌, List, ℕ, take}
 use Rattle.rules.specs.Lists.{any}
 use Rattle.rules.specs.Tables.{Rec, is_free, used, matches}
 

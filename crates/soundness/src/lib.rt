@@ -1,6 +1,7 @@
 // "Tables are sound if" (document 01, Tables): each rule is one check, over any table.
 #![tactic(auto)]
-ghost use Rattle.words.specs.Basics.{◌≡◌, ◌*◌, ◌<◌, ◌≤◌, length};
+
+ghost use Rattle.std.specs.Prelude.{◌≡◌, ◌*◌, ◌<◌, ◌≤◌, length};
 ghost use Rattle.rules.specs.Types.{Devices, Groups};
 ghost use Rattle.rules.specs.Lists.{all};
 ghost use Rattle.rules.specs.Tables.{records, used};

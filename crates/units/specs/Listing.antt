@@ -1,5 +1,5 @@
 -- Recipients in a lent list (document 01, Outcomes and Recipients): 3 octets each from its front on, and how many there are.
-use Rattle.words.specs.Basics.{◌≡◌, cond, List, [], ◌∷◌, ◌++◌, ℕ, zero, suc, ◌*◌, ◌≤◌, length, drop}
+use Rattle.std.specs.Prelude.{◌≡◌, cond, List, [], ◌∷◌, ◌++◌, ℕ, zero, suc, ◌*◌, ◌≤◌, length, drop}
 use Rattle.rules.specs.Lists.{has}
 use Rattle.rules.specs.Octets.{over}
 use Rattle.rules.specs.Units.{unit_at, unit_octets}

@@ -3,7 +3,8 @@
 
 mod rising;
 
-ghost use Rattle.words.specs.Basics.{◌≡◌, ◌+◌, ◌*◌, ◌^◌, ◌<◌, ◌≤◌, length, sets};
+ghost use Rattle.std.specs.Prelude.{◌≡◌, ◌+◌, ◌*◌, ◌^◌, ◌<◌, ◌≤◌, length};
+ghost use Rattle.std.proofs.lemmas.List.Edits.{sets};
 ghost use Rattle.rules.specs.Lists.{has};
 ghost use Rattle.rules.specs.Units.{three_octets};
 ghost use Rattle.units.specs.Listing.{units};

@@ -1,7 +1,8 @@
 // Text written piece by piece into a lent buffer: each writer starts at a place and returns the place behind what it wrote.
 #![tactic(auto)]
 
-ghost use Rattle.words.specs.Basics.{◌≡◌, flat_map, ◌+◌, ◌*◌, ◌<◌, ◌≤◌, length};
+ghost use Rattle.std.specs.Prelude.{◌≡◌, ◌+◌, ◌*◌, ◌<◌, ◌≤◌, length};
+ghost use mathlib.Core.List.{flat_map};
 ghost use Rattle.writing.specs.Writing.{digit, hex_octet, decimal, field, Wrote};
 
 // One digit, for decimal and hex alike.

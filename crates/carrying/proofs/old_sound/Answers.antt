@@ -1,0 +1,13 @@
+-- `carrying::old_sound` meets its contract: a wrong length decides, and else the records do.
+use Rattle.words.specs.Basics.{sym, ◌∙◌}
+use Rattle.rules.specs.Lists.{◌&◌}
+use Rattle.rules.specs.Carry.{old_sound}
+use Rattle.carrying.proofs.old_sound.Goals as goal
+
+pub returns-then-not-whole_records : goal.returns-then-not-whole_records
+unfolding old_sound ◌&◌
+returns-then-not-whole_records c = rw (sym c.whole_records.ensures ∙ c.if-not-whole_records.true)
+
+pub returns : goal.returns
+unfolding old_sound ◌&◌
+returns c = rw (sym c.whole_records.ensures ∙ c.if-not-whole_records.false, c.all_fit-fit.ensures, c.distinct-once.ensures)
