@@ -9,19 +9,19 @@ mod outcomes;
 mod reasons;
 
 // A device's address. D'0001 and G'0001 are the same number and different things (document 01, Tables).
-#[derive(Drop)]
+#[derive(Clone, Copy)]
 pub struct DeviceAddress(pub u16);
 
 // A group's address.
-#[derive(Drop)]
+#[derive(Clone, Copy)]
 pub struct GroupAddress(pub u16);
 
 // A response code, the first octet of a reply's payload.
-#[derive(Drop)]
+#[derive(Clone, Copy)]
 pub struct Code(pub u8);
 
 // The fields of a message, in its order (document 01, The message), and the octet where the payload begins, counted from 1.
-#[derive(Drop)]
+#[derive(Clone, Copy)]
 pub struct Fields {
     pub source: DeviceAddress,
     pub source_unit: u8,
@@ -38,7 +38,7 @@ pub struct Fields {
 }
 
 // Where a message goes, of the four kinds that document 01 tells apart.
-#[derive(Drop)]
+#[derive(Clone, Copy)]
 pub enum Destination {
     // D'0:U'0 and D'7FFF:U'FF, each of individual type
     Concentrator,
@@ -50,7 +50,7 @@ pub enum Destination {
 }
 
 // The octets of a bind that a removal or a read compares.
-#[derive(Drop)]
+#[derive(Clone, Copy)]
 pub enum BindPart {
     Whole,
     Source,
@@ -60,14 +60,14 @@ pub enum BindPart {
 }
 
 // Which binds a Get Bind Entries command asks for: by their index, or by a part, which is never the whole.
-#[derive(Drop)]
+#[derive(Clone, Copy)]
 pub enum Filter {
     Index,
     Part(BindPart),
 }
 
 // The commands of the two services.
-#[derive(Drop)]
+#[derive(Clone, Copy)]
 pub enum Command {
     AddBind,
     RemoveBinds(BindPart),
@@ -82,14 +82,14 @@ pub enum Command {
 }
 
 // What a message to the concentrator asks for: one of the commands, or what is not served.
-#[derive(Drop)]
+#[derive(Clone, Copy)]
 pub enum Decoded {
     Is(Command),
     NotServed,
 }
 
 // The tables.
-#[derive(Drop)]
+#[derive(Clone, Copy)]
 pub enum Kind {
     Devices,
     Binds,
@@ -99,7 +99,7 @@ pub enum Kind {
 }
 
 // What a public call answers (document 01, Outcomes). `Done` holds a length, `Forwarded` the number of recipients.
-#[derive(Drop)]
+#[derive(Clone, Copy)]
 pub enum Outcome {
     Done(usize),
     Forwarded(usize),
@@ -122,7 +122,7 @@ pub enum Outcome {
 }
 
 // What is wrong with an Add Bind that is answered 0x02 (document 02, request 6). `NoFault` is told with any other code or outcome.
-#[derive(Drop)]
+#[derive(Clone, Copy)]
 pub enum Reason {
     NoFault,
     PayloadLength,
@@ -137,7 +137,7 @@ pub enum Reason {
 }
 
 // What a message comes to: refused, a command, or a message to hand on.
-#[derive(Drop)]
+#[derive(Clone, Copy)]
 pub enum Way {
     Refuse(Outcome),
     Serve(Command),
@@ -145,14 +145,14 @@ pub enum Way {
 }
 
 // What handling a message gives, beside what it writes.
-#[derive(Drop)]
+#[derive(Clone, Copy)]
 pub struct Told {
     pub outcome: Outcome,
     pub reason: Reason,
 }
 
 // What reading a message gives.
-#[derive(Drop)]
+#[derive(Clone, Copy)]
 pub struct Reading {
     pub outcome: Outcome,
     pub fields: Fields,

@@ -1,11 +1,10 @@
--- `soundness::sound` meets its contract: one table after the other, as many as there are.
+-- What `sound` returns: one table after the other, as many as there are.
 use Rattle.words.specs.Basics.{◌≡◌, Bool, ◌&&◌, List, [], ◌∷◌}
 use Rattle.rules.specs.Lists.{all}
 use Rattle.rules.specs.Frame.{every_table}
 use Rattle.rules.specs.Sound.{sound}
 use Rattle.rules.proofs.Lists.{and-true}
-use Rattle.soundness.proofs.sound.Statement.{statement}
-use Rattle.soundness.proofs.sound.Tie as tie
+use Rattle.soundness.proofs.sound.Goals as goal
 
 and-all : {A : Type 0} (p : A → Bool) (x : A) (xs : List A) {b r : Bool} → b ≡ p x → r ≡ all p xs → (b && r) ≡ all p (x ∷ xs)
 unfolding all
@@ -15,9 +14,6 @@ last-all : {A : Type 0} (p : A → Bool) (x : A) {b : Bool} → b ≡ p x → b 
 unfolding all
 last-all p x e = rw (e, and-true _)
 
-returns : tie.Need-returns
+pub returns : goal.returns
 unfolding sound every_table
 returns c = search (and-all, last-all) depth 32
-
-pub sound-spec : {M : Type 1} → statement M
-sound-spec = tie.close (search (tie.spec, returns))
