@@ -1,4 +1,4 @@
-//! Links the static library that `rt staticlib gneissfold` writes, from `target/staticlib` of the repository or from `GNEISSFOLD_LIB_DIR`.
+//! Links the static library that `tools/library` writes, from `target/staticlib` of the repository or from `GNEISSFOLD_LIB_DIR`.
 use std::env;
 use std::path::PathBuf;
 
@@ -13,7 +13,7 @@ fn main() {
     println!("cargo:rerun-if-changed={}", library.display());
     if !library.is_file() {
         panic!(
-            "no {}: run `rt staticlib gneissfold` first, or set GNEISSFOLD_LIB_DIR",
+            "no {}: run `tools/library` first, or set GNEISSFOLD_LIB_DIR",
             library.display()
         );
     }
