@@ -9,6 +9,7 @@ use Rattle.rules.specs.Layout.{size, longest_name, group_record}
 use Rattle.rules.specs.Frame.{table}
 use Rattle.rules.specs.Commands.{creation, new_group, on_ok}
 use Rattle.changing.specs.Changing.{Coded, coded, coding}
+use Rattle.changing.proofs.Changed.{changes, stays}
 use Rattle.creating.specs.Creating.{made, making}
 
 pub name_too_long : (p : List ℕ) (t : List Rec) → longest_name < octet 0 p → not_enough_resources ≡ creation p t
@@ -32,6 +33,9 @@ name-fits p t {c} e z = step (leb (octet 0 p) longest_name) refl (sym (ap (λ (d
         → octet 0 p ≤ longest_name
     step true h w = leb-true (octet 0 p) longest_name h
     step false h w = absurd (omega arith)
+
+-- what `create_group` stands on: the record fits, and is stored where the code is 0x00, and only there
+pub ruleset storing = (name-fits, changes, stays)
 
 -- Create Group whole
 pub makes : {g : GroupAddress} {n : ℕ} (gs p out : List ℕ) {c : Code} {gs' out' : List ℕ} → g ≡ new_group (table Groups gs)

@@ -46,6 +46,7 @@ fn creation(groups: &[u8], payload: &[u8]) -> Code
 }
 
 // Create Group with this address: its record goes to the first free place.
+#[tactic(auto, using(crate::proofs::Created::storing))]
 fn create_group(groups: &mut [u8], group: GroupAddress, payload: &[u8]) -> Code
     requires { (length payload.now ≡ 1 + octet 0 payload.now) × (length groups.old % size Groups ≡ 0) }
     ensures { coded result groups.new

@@ -13,7 +13,8 @@ ghost use Rattle.rules.specs.Copy.{copy};
 ghost use Rattle.rules.specs.Host.{admit, release};
 ghost use Rattle.rules.specs.Carry.{carried_over};
 ghost use Rattle.rules.specs.Message.{reading};
-ghost use Rattle.gneissfold.specs.Numbers.{message_told, of_message, host_told, of_host, carry_told, of_carry, copy_told, of_copy, read_told, of_reading, twelve};
+ghost use Rattle.gneissfold.specs.Numbers.{message_told, of_message, host_told, of_host, carry_told, of_carry, copy_told};
+ghost use Rattle.gneissfold.specs.Numbers.{of_copy, read_told, of_reading, twelve};
 
 use words::{DeviceAddress, Fields, Told};
 
@@ -32,8 +33,7 @@ pub fn tell(told: Told, count: &mut usize, reason: &mut u8, octet: &mut u8) -> u
 
 // Handles a message. `count` gets the reply's length or the number of recipients, and 0 where the paper states none; `reason` and `octet` say what is wrong
 // with an Add Bind that is answered 0x02, and else 0.
-#[unsafe(no_mangle)]
-pub extern "C" fn gneissfold_message(
+pub fn gneissfold_message(
     devices: &mut [u8],
     binds: &mut [u8],
     groups: &mut [u8],
@@ -57,8 +57,7 @@ pub extern "C" fn gneissfold_message(
 }
 
 // Admits a device with its rights and its set of units.
-#[unsafe(no_mangle)]
-pub extern "C" fn gneissfold_admit(
+pub fn gneissfold_admit(
     devices: &mut [u8],
     binds: &[u8],
     groups: &[u8],
@@ -86,8 +85,7 @@ pub extern "C" fn gneissfold_admit(
 }
 
 // Releases a device, with its members and the binds that name it, and its read session; all sessions where a bind named it.
-#[unsafe(no_mangle)]
-pub extern "C" fn gneissfold_release(
+pub fn gneissfold_release(
     devices: &mut [u8],
     binds: &mut [u8],
     groups: &[u8],
@@ -105,8 +103,7 @@ pub extern "C" fn gneissfold_release(
 }
 
 // Carries an old device table, of records of 4 octets, over into a new one.
-#[unsafe(no_mangle)]
-pub extern "C" fn gneissfold_carry_over(old: &[u8], new: &mut [u8]) -> u8
+pub fn gneissfold_carry_over(old: &[u8], new: &mut [u8]) -> u8
     ensures { carry_told result new.new ≡ of_carry (carried_over old.now new.old) }
 {
     let outcome = hub::carry_over(old, new);
@@ -114,14 +111,7 @@ pub extern "C" fn gneissfold_carry_over(old: &[u8], new: &mut [u8]) -> u8
 }
 
 // Writes the copy of a message for one unit of a device into the room. `length` gets the copy's length, or 0.
-#[unsafe(no_mangle)]
-pub extern "C" fn gneissfold_copy(
-    msg: &[u8],
-    room: &mut [u8],
-    to: u16,
-    unit: u8,
-    length: &mut usize,
-) -> u8
+pub fn gneissfold_copy(msg: &[u8], room: &mut [u8], to: u16, unit: u8, length: &mut usize) -> u8
     ensures { copy_told result length.new room.new
         ≡ of_copy (copy msg.now room.old (device to) unit) }
 {
@@ -158,8 +148,7 @@ fn numbers(f: Fields) -> [u16; 12]
 }
 
 // Reads a message, and writes its twelve fields: every one of them 0 where it cannot be read.
-#[unsafe(no_mangle)]
-pub extern "C" fn gneissfold_read(msg: &[u8], fields: &mut [u16; 12]) -> u8
+pub fn gneissfold_read(msg: &[u8], fields: &mut [u16; 12]) -> u8
     ensures { read_told result fields.new ≡ of_reading (reading msg.now) }
 {
     let reading = hub::read(msg);

@@ -10,7 +10,8 @@ ghost use Rattle.rules.specs.Copy.{copy};
 ghost use Rattle.rules.specs.Host.{admit, release};
 ghost use Rattle.rules.specs.Carry.{carried_over};
 ghost use Rattle.rules.specs.Message.{reading};
-ghost use Rattle.gneissfold.specs.Numbers.{message_told, of_message, host_told, of_host, carry_told, of_carry, copy_told, of_copy, read_told, of_reading};
+ghost use Rattle.gneissfold.specs.Numbers.{message_told, of_message, host_told, of_host, carry_told, of_carry, copy_told};
+ghost use Rattle.gneissfold.specs.Numbers.{of_copy, read_told, of_reading};
 
 // Handles a message. `count` gets the reply's length or the number of recipients, and 0 where the paper states none; `reason` and `octet` say what is wrong
 // with an Add Bind that is answered 0x02, and else 0.

@@ -12,8 +12,7 @@ ghost use Rattle.gneissfold_indexed.specs.Beside.{of_indexed};
 use words::DeviceAddress;
 
 // Handles a message as `gneissfold_message` does, with an index.
-#[unsafe(no_mangle)]
-pub extern "C" fn gneissfold_indexed_message(
+pub fn gneissfold_indexed_message(
     devices: &mut [u8],
     binds: &mut [u8],
     groups: &mut [u8],
@@ -41,8 +40,7 @@ pub extern "C" fn gneissfold_indexed_message(
 }
 
 // Releases a device as `gneissfold_release` does, with an index.
-#[unsafe(no_mangle)]
-pub extern "C" fn gneissfold_indexed_release(
+pub fn gneissfold_indexed_release(
     devices: &mut [u8],
     binds: &mut [u8],
     groups: &[u8],

@@ -20,7 +20,8 @@ unfolding ranks
 ranks-number i j [] = refl
 ranks-number i j (b ∷ bs) =
     let ih = ranks-number (suc i) (suc j) bs in
-    elim (is_free b) as (λ x. length (cond x (ranks (suc i) bs) (rank b i ∷ ranks (suc i) bs)) ≡ length (cond x (ranks (suc j) bs) (rank b j ∷ ranks (suc j) bs)))
+    elim (is_free b) as
+    (λ x. length (cond x (ranks (suc i) bs) (rank b i ∷ ranks (suc i) bs)) ≡ length (cond x (ranks (suc j) bs) (rank b j ∷ ranks (suc j) bs)))
     [ true ↦ ih | false ↦ ap suc ih ]
 
 pub record Counting (t : List ℕ) (at count : ℕ) : Type 0 where

@@ -42,7 +42,8 @@ module _ (t ix : List ℕ) {from i to w : ℕ} (N : Naming (table Binds t) ix fr
 pub device-rises : (bs : List Rec) (ix : List ℕ) (d : ℕ) → ranked bs (device_rank d) ix ≤ ranked bs (device_rank (suc d)) ix
 unfolding ranked below device_rank
 device-rises bs ix d =
-    let c = count-two (below bs (device_rank d)) (λ p. false) (below bs (device_rank (suc d))) rises (λ p e. absurd (false≢true e)) (λ p f e. false≢true e) ix in
+    let c =
+    count-two (below bs (device_rank d)) (λ p. false) (below bs (device_rank (suc d))) rises (λ p e. absurd (false≢true e)) (λ p f e. false≢true e) ix in
     omega arith
   where
     rises : (p : ℕ) → below bs (device_rank d) p ≡ true → below bs (device_rank (suc d)) p ≡ true

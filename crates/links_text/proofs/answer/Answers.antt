@@ -1,0 +1,24 @@
+-- `links_text::answer` meets its contract: the tables are those of the input, and the text is that of the answer.
+use Rattle.words.specs.Basics.{arith}
+use Rattle.messages.proofs.Replies.{rest_is}
+use Rattle.links_text.specs.Printing.{all_tables}
+use Rattle.links_text.proofs.Bounds.{within}
+use Rattle.links_text.proofs.Texts.{answer_text_lem}
+use Rattle.links_text.proofs.answer.Goals as goal
+
+pub write_answer-n-requires : goal.write_answer-n-requires
+write_answer-n-requires c =
+    let w = within _ _ _ _ c.message-told.ensures in
+    record {
+      reply = w.reply;
+      longest = omega (arith, w.reply, c.message-told.auto.reply);
+      list = w.list;
+      most = omega (arith, w.list, c.message-told.auto.list);
+      text = c.requires.1;
+    }
+
+pub returns : goal.returns
+returns c =
+    let told = answer_text_lem c.args.input.now _ _ _ _ _ c.requires.0 c.put.ensures c.put-2.ensures c.put-3.ensures c.put-4.ensures
+    (rest_is all_tables c.args.input.now) c.message-told.ensures in
+    (rw (← told.0) c.write_answer-n.ensures, told.1)
