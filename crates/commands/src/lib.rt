@@ -42,6 +42,7 @@ fn fault_of(devices: &[u8], binds: &[u8], groups: &[u8], command: Command, paylo
 }
 
 // Will the command change the binds, if it is granted?
+#[tactic(auto, unfolding(crate::specs::Perform::touches))]
 fn touches(binds: &[u8], command: Command, payload: &[u8]) -> bool
     requires { length payload.now ≡ (row command).length payload.now }
     ensures { result ≡ touches command (table Binds binds.now) payload.now }

@@ -42,6 +42,7 @@ fn to_many(to: Destination) -> bool
 }
 
 // Outcome 18: the concentrator serves the commands and nothing else.
+#[tactic(auto, unfolding(rules::specs::Calls::asking))]
 fn asking(decoded: Decoded) -> Way
     ensures { result ≡ asking decoded }
 {
@@ -52,6 +53,7 @@ fn asking(decoded: Decoded) -> Way
 }
 
 // Outcome 14: a message goes on only to what exists.
+#[tactic(auto, unfolding(rules::specs::Lists::ask))]
 fn forwarding(exists: bool, to: Destination) -> Way
     ensures { result ≡ ask exists (Refuse NoDestination) (Forward to) }
 {

@@ -2,7 +2,7 @@
 use borrow.Rule.Slice.PartMut.{mid_of, put_mid}
 use Rattle.words.specs.Basics.{◌≡◌, ap, false, List, [], ◌∷◌, flat_map, ℕ, ◌+◌, ◌-◌, ◌≤◌, arith, eqb, length, drop, length-drop, length-take-le, ne_eqb}
 use Rattle.words.specs.Names.{header_length, longest}
-use Rattle.rules.specs.Types.{Fields, Reason, Command, Outcome, Done}
+use Rattle.rules.specs.Types.{Fields, Reason, Command, Outcome, Done, Forwarded, Nobody}
 use Rattle.rules.specs.Octets.{over}
 use Rattle.rules.specs.Units.{unit_octets}
 use Rattle.rules.specs.Frame.{Lent, nothing_lent, tables, changed}
@@ -64,3 +64,13 @@ forwards [] x e = rw (e, x.count, x.octets)
 forwards (u ∷ us) x e =
     let some : eqb (length (u ∷ us)) 0 ≡ false = ne_eqb (length (u ∷ us)) 0 (λ z. omega arith) in
     rw (e, x.count, some, x.octets)
+
+pub nobody : {n : ℕ} {l l' : List ℕ} (us : List ℕ) → Listing l l' n us → n ≡ 0 → answer Nobody nothing_lent [] l' ≡ forwarded us nothing_lent [] l
+unfolding forwarded over unit_octets flat_map
+nobody [] x z = rw x.octets
+nobody (u ∷ us) x z = absurd (omega (arith, x.count))
+
+pub somebody : {n : ℕ} {l l' : List ℕ} (us : List ℕ) → Listing l l' n us → (n ≡ 0 → ⊥) → answer (Forwarded n) nothing_lent [] l' ≡ forwarded us nothing_lent [] l
+unfolding forwarded
+somebody [] x z = absurd (z x.count)
+somebody (u ∷ us) x z = rw (x.count, x.octets)

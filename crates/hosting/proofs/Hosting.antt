@@ -135,3 +135,18 @@ module _ (L : Lent) (d : DeviceAddress) where
     pub release-sound : not b ≡ false → settled (releasing (tables L) d) L (dismissal (tables L Devices) d) ≡ release L d
     unfolding release dismissal ask
     release-sound s = rw (passed e s)
+
+-- .. all of it in one: 23, or the device with all that names it
+
+module _ (L : Lent) {b : Bool} (e : b ≡ sound L) (d : DeviceAddress) where
+  pub release_unknown : not b ≡ false → admitted (tables L Devices) d ≡ false → host_answer NotAdmitted L ≡ release L d
+  release_unknown s a = unknown L d a ∙ release-sound L d e s
+
+  pub release-done : {ds bs ms ss : List ℕ} {named : Bool} → not b ≡ false → admitted (tables L Devices) d ≡ true
+      → (ds ≡ written (size Devices) (taking d Devices) L.devices)
+      × (bs ≡ written (size Binds) (taking d Binds) L.binds)
+      × (ms ≡ written (size Members) (taking d Members) L.members)
+      → named ≡ any (names_device d) (used (tables L Binds))
+      → ss ≡ cond named (written (size Sessions) (wipe (λ r. true)) L.sessions) (written (size Sessions) (wipe (addressed d.0)) L.sessions)
+      → host_answer (Done 0) (replaced Devices ds (replaced Binds bs (replaced Members ms (replaced Sessions ss L)))) ≡ release L d
+  release-done s a w n h = dismissed L d a w n h ∙ release-sound L d e s
