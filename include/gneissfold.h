@@ -1,7 +1,7 @@
 /*
  * gneissfold: the bind and group part of a HAN-FUN concentrator, for C and C++.
  *
- * Link target/staticlib/libgneissfold.a, which `rt staticlib gneissfold` proves and writes (x86-64 Linux). Beside its six calls the
+ * Link target/staticlib/libgneissfold.a, which `tools/library` proves and writes (x86-64 Linux). Beside its six calls the
  * archive asks for memcpy and memset alone. It has no state, takes no memory of its own and calls nothing back: all that a call reads or
  * changes is lent to it by the caller, until it returns. On the stack no call takes 1 KiB (tests/stack measures each). Calls from several
  * threads need no lock unless they are lent the same octets.
