@@ -11,8 +11,8 @@ use Rattle.rules.specs.Faults.{has_source_device, has_source_unit, has_bound_dev
 unfoldable pub or_else : Reason → Reason → Reason
 or_else f rest = cond (faultless f) rest f
 
-unfoldable pub unit_fault : List Rec → DeviceAddress → ℕ → (noDevice not_a_unit : Reason) → Reason
-unit_fault ds d u noDevice not_a_unit = ask (device_exists ds d) noDevice (ask (unit_exists ds d u) not_a_unit NoFault)
+unfoldable pub unit_fault : List Rec → DeviceAddress → ℕ → (no_device no_unit : Reason) → Reason
+unit_fault ds d u no_device no_unit = ask (device_exists ds d) no_device (ask (unit_exists ds d u) no_unit NoFault)
 
 unfoldable pub source_fault : List Rec → Rec → Reason
 source_fault ds b = ask (has_source_device ds b) NoSourceDevice (ask (has_source_unit ds b) NoSourceUnit NoFault)

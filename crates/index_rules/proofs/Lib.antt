@@ -7,7 +7,3 @@ pub mod One
 pub mod Nearby
 pub mod Moving
 pub mod Changes
-pub mod Calls
-pub mod Runs
-pub mod Seen
-pub mod Rows

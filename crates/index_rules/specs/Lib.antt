@@ -2,5 +2,3 @@
 pub mod Index
 pub mod Walks
 pub mod Calls
-pub mod Runs
-pub mod Seen

@@ -1,5 +1,5 @@
 -- The order of outcomes (document 01, Outcomes): the checks of each call as the paper lists them, and that the first which fails gives the outcome,
--- whatever is wrong behind it. The rows with several faults (`order` of `RowsOfRefusals`, those of `RowsOfCalls`, `not-Carried`) are inputs that show it.
+-- whatever is wrong behind it. The rows with several faults (`order` of `RowsOfRefusals`, those of `RowsOfCalls`, `not_carried`) are inputs that show it.
 use Rattle.words.specs.Basics.{◌≡◌, refl, sym, Bool, true, false, not, false≢true, List, [], ◌∷◌, ◌++◌, ℕ, ◌*◌, eqb, length}
 use Rattle.words.specs.Names.{no_fields}
 use Rattle.words.specs.declared.Decoded.TheVariants.{Is, NotServed}

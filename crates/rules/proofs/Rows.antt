@@ -9,7 +9,7 @@ use Rattle.words.specs.Outcomes.{number_of, value_of}
 use Rattle.words.specs.declared.Outcome.TheVariants.{NotServed}
 use Rattle.words.proofs.Apart.{read_back, reason_back}
 use Rattle.rules.specs.Types.{Outcome, Done, Forwarded, Nobody, WrongLength, WrongDataLength, WrongType, NoSource, NoDestination, ResponseToMany}
-use Rattle.rules.specs.Types.{Unsound, NoRoom, NoCopy, OutOfRange, AlreadyAdmitted, NoFreeRecord, NotAdmitted, WrongIndex}
+use Rattle.rules.specs.Types.{Unsound, NoRoom, NoCopy, OutOfRange, AlreadyAdmitted, NoFreeRecord, NotAdmitted}
 use Rattle.rules.proofs.Whole.{whole}
 use Rattle.rules.proofs.RowsOfDelivery as delivery
 use Rattle.rules.proofs.RowsOfRefusals as refusals
@@ -111,7 +111,6 @@ outcomes =
     ∷ row AlreadyAdmitted (21 ∷ 0 ∷ [])
     ∷ row NoFreeRecord (22 ∷ 0 ∷ [])
     ∷ row NotAdmitted (23 ∷ 0 ∷ [])
-    ∷ row WrongIndex (30 ∷ 0 ∷ [])
     ∷ []
 
 -- Every row, by what it is about: where one fails, the check names its table

@@ -19,7 +19,6 @@ pub use Rattle.words.specs.declared.Kind.TheVariants.{Devices, Binds, Groups, Me
 pub use Rattle.words.specs.declared.Outcome.{Outcome}
 pub use Rattle.words.specs.declared.Outcome.TheVariants.{Done, Forwarded, Nobody, WrongLength, WrongDataLength, WrongType, NoSource, NoDestination}
 pub use Rattle.words.specs.declared.Outcome.TheVariants.{ResponseToMany, Unsound, NoRoom, NoCopy, OutOfRange, AlreadyAdmitted, NoFreeRecord, NotAdmitted}
-pub use Rattle.words.specs.declared.Outcome.TheVariants.{WrongIndex}
 pub use Rattle.words.specs.declared.Reason.{Reason}
 pub use Rattle.words.specs.declared.Reason.TheVariants.{NoFault, PayloadLength, NoSourceDevice, NoSourceUnit, DestinationUnitFF, NoDestinationDevice}
 pub use Rattle.words.specs.declared.Reason.TheVariants.{NoDestinationUnit, NoGroup, BoundToItself, AlreadyPresent}

@@ -8,7 +8,7 @@ use Rattle.words.specs.Outcomes.{number_of, value_of}
 use Rattle.words.specs.declared.Outcome.{Outcome}
 use Rattle.words.specs.declared.Outcome.TheVariants.{Done, Forwarded, Nobody, WrongLength, WrongDataLength, WrongType, NoSource, NoDestination}
 use Rattle.words.specs.declared.Outcome.TheVariants.{ResponseToMany, Unsound, NoRoom, NotServed, NoCopy, OutOfRange, AlreadyAdmitted}
-use Rattle.words.specs.declared.Outcome.TheVariants.{NoFreeRecord, NotAdmitted, WrongIndex}
+use Rattle.words.specs.declared.Outcome.TheVariants.{NoFreeRecord, NotAdmitted}
 use Rattle.words.specs.Reasons.{reason_number}
 use Rattle.words.specs.declared.Reason.{Reason}
 use Rattle.words.specs.declared.Reason.TheVariants.{NoFault, PayloadLength, NoSourceDevice, NoSourceUnit, DestinationUnitFF, NoDestinationDevice}
@@ -33,8 +33,7 @@ read_back n v =
     (cond (eqb n 20) OutOfRange
     (cond (eqb n 21) AlreadyAdmitted
     (cond (eqb n 22) NoFreeRecord
-    (cond (eqb n 23) NotAdmitted
-    WrongIndex))))))))))))))))
+    NotAdmitted)))))))))))))))
 
 pub read_back_lem : (o : Outcome) → read_back (number_of o) (value_of o) ≡ o
 unfolding read_back
@@ -55,7 +54,6 @@ read_back_lem OutOfRange = refl
 read_back_lem AlreadyAdmitted = refl
 read_back_lem NoFreeRecord = refl
 read_back_lem NotAdmitted = refl
-read_back_lem WrongIndex = refl
 
 pub apart : (a b : Outcome) → number_of a ≡ number_of b → value_of a ≡ value_of b → a ≡ b
 apart a b n v = sym (read_back_lem a) ∙ ap₂ read_back n v ∙ read_back_lem b

@@ -3,7 +3,7 @@ use Rattle.std.specs.Prelude.{ℕ}
 use Rattle.words.specs.declared.Outcome.{Outcome}
 use Rattle.words.specs.declared.Outcome.TheVariants.{Done, Forwarded, Nobody, WrongLength, WrongDataLength, WrongType, NoSource, NoDestination}
 use Rattle.words.specs.declared.Outcome.TheVariants.{ResponseToMany, Unsound, NoRoom, NotServed, NoCopy, OutOfRange, AlreadyAdmitted}
-use Rattle.words.specs.declared.Outcome.TheVariants.{NoFreeRecord, NotAdmitted, WrongIndex}
+use Rattle.words.specs.declared.Outcome.TheVariants.{NoFreeRecord, NotAdmitted}
 
 abbrev pub number_of : Outcome → ℕ
 number_of (Done n) = 0
@@ -23,7 +23,6 @@ number_of OutOfRange = 20
 number_of AlreadyAdmitted = 21
 number_of NoFreeRecord = 22
 number_of NotAdmitted = 23
-number_of WrongIndex = 30
 
 -- "A returned count or length is 0 unless stated."
 abbrev pub value_of : Outcome → ℕ
@@ -44,4 +43,3 @@ value_of OutOfRange = 0
 value_of AlreadyAdmitted = 0
 value_of NoFreeRecord = 0
 value_of NotAdmitted = 0
-value_of WrongIndex = 0

@@ -118,7 +118,6 @@ pub enum Outcome {
     AlreadyAdmitted,
     NoFreeRecord,
     NotAdmitted,
-    WrongIndex,
 }
 
 // What is wrong with an Add Bind that is answered 0x02 (document 02, request 6). `NoFault` is told with any other code or outcome.

@@ -27,7 +27,6 @@ impl Outcome {
             Outcome::AlreadyAdmitted => 21,
             Outcome::NoFreeRecord => 22,
             Outcome::NotAdmitted => 23,
-            Outcome::WrongIndex => 30,
         }
     }
 
@@ -53,7 +52,6 @@ impl Outcome {
             Outcome::AlreadyAdmitted => 0,
             Outcome::NoFreeRecord => 0,
             Outcome::NotAdmitted => 0,
-            Outcome::WrongIndex => 0,
         }
     }
 }
