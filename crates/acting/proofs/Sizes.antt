@@ -5,7 +5,7 @@ use Rattle.rules.specs.Types.{Command, Kind, Binds, Groups, Members, Sessions}
 use Rattle.rules.specs.Lists.{all}
 use Rattle.rules.specs.Tables.{used, records}
 use Rattle.rules.specs.Layout.{size, full}
-use Rattle.rules.specs.Frame.{Lent, lent_of, tables}
+use Rattle.rules.specs.Frame.{Lent, lent, lent_of, tables}
 use Rattle.rules.specs.Sound.{sound, whole_records, sound_table, fits, group_fits}
 use Rattle.rules.specs.Commands.{row}
 use Rattle.rules.proofs.Lists.{split}
@@ -32,30 +32,30 @@ sizes L h =
 pub asked-length : (j k : Command) (p : List ℕ) (n : ℕ) → j ≡ k → length p ≡ (row j).length p → (row k).length p ≡ n → length p ≡ n
 asked-length j k p n a l e = l ∙ ap (λ (i : Command). (row i).length p) a ∙ e
 
-module _ (ds bs gs ms ss : List ℕ) (w : Workable ds bs gs ms ss) where
+module _ (ds bs gs ms ss : List ℕ) (w : Workable (lent ds bs gs ms ss)) where
   pub whole-binds : length bs % size Binds ≡ 0
-  whole-binds = (sizes _ w.sound).whole Binds
+  whole-binds = (sizes _ w).whole Binds
 
   pub whole-groups : length gs % size Groups ≡ 0
-  whole-groups = (sizes _ w.sound).whole Groups
+  whole-groups = (sizes _ w).whole Groups
 
   pub whole-members : length ms % size Members ≡ 0
-  whole-members = (sizes _ w.sound).whole Members
+  whole-members = (sizes _ w).whole Members
 
   pub whole-sessions : length ss % size Sessions ≡ 0
-  whole-sessions = (sizes _ w.sound).whole Sessions
+  whole-sessions = (sizes _ w).whole Sessions
 
   pub within-binds : length bs ≤ full Binds
-  within-binds = (sizes _ w.sound).within Binds
+  within-binds = (sizes _ w).within Binds
 
   pub within-groups : length gs ≤ full Groups
-  within-groups = (sizes _ w.sound).within Groups
+  within-groups = (sizes _ w).within Groups
 
   pub within-members : length ms ≤ full Members
-  within-members = (sizes _ w.sound).within Members
+  within-members = (sizes _ w).within Members
 
   pub named-groups : all group_fits (used (records (size Groups) gs)) ≡ true
-  named-groups = (sizes _ w.sound).named
+  named-groups = (sizes _ w).named
 
 -- the reply has room for a code and an address
 pub some-room : (n : ℕ) → longest ≤ header_length + n → 3 ≤ n

@@ -2,14 +2,13 @@
 use Rattle.std.specs.Prelude.{◌≡◌, true, List, ℕ, length}
 use Rattle.rules.specs.Types.{DeviceAddress, Code, Command}
 use Rattle.rules.specs.Octets.{over}
-use Rattle.rules.specs.Frame.{Lent, beside, tables, Effect, nothing, changed}
+use Rattle.rules.specs.Frame.{Lent, tables, Effect, nothing, changed}
 use Rattle.rules.specs.Sound.{sound}
 use Rattle.rules.specs.Commands.{row, on_ok, reply_payload}
 
--- what commands may count on: these are of tables that are sound
-pub record Workable (ds bs gs ms ss : List ℕ) : Type 0 where
-  pub lent : Lent
-  pub sound : sound (beside lent ds bs gs ms ss) ≡ true
+-- what commands may count on: tables that are sound
+abbrev pub Workable : Lent → Type 0
+Workable L = sound L ≡ true
 
 -- how many octets were written, the tables, and the part of the reply
 pub record Performed : Type 0 where

@@ -3,31 +3,32 @@
 
 ghost use Rattle.std.specs.Prelude.{◌≡◌, ◌+◌, ◌≤◌, length};
 ghost use Rattle.words.specs.Names.{header_length, longest};
-ghost use Rattle.rules.specs.Frame.{Lent, beside};
+ghost use Rattle.lent.specs.Held.{held, SameTables};
 ghost use Rattle.rules.specs.Commands.{row};
 ghost use Rattle.acting.specs.Acting.{Workable, performed, acting};
 
+use lent::Tables;
 use words::{Command, DeviceAddress};
 
-// The command's own handler. The code that it gives is the payload of the reply, unless more is named.
+// The command's own handler. The code that it gives is the payload of the reply, unless more is named. Handlers are lent different tables, so they are arms
+// and no functions of one type.
 pub fn act(
-    devices: &[u8],
-    binds: &mut [u8],
-    groups: &mut [u8],
-    members: &mut [u8],
-    sessions: &mut [u8],
+    tables: &mut Tables<'_>,
     source: DeviceAddress,
     command: Command,
     payload: &[u8],
     out: &mut [u8],
 ) -> usize
-    requires { Workable devices.now binds.old groups.old members.old sessions.old
+    requires { Workable (held tables.old)
         × (length payload.now ≡ (row command).length payload.now) × (longest ≤ header_length + length out.old) }
-    ensures { (L : Lent)
-        → performed result (beside L devices.now binds.new groups.new members.new sessions.new) out.new
-        ≡ acting (beside L devices.now binds.old groups.old members.old sessions.old) source command
-        payload.now out.old }
+    ensures same { SameTables tables.new tables.old }
+    ensures acts { performed result (held tables.new) out.new ≡ acting (held tables.old) source command payload.now out.old }
 {
+    let devices = tables.devices;
+    let binds = &mut *tables.binds;
+    let groups = &mut *tables.groups;
+    let members = &mut *tables.members;
+    let sessions = &mut *tables.sessions;
     match command {
         Command::AddBind => {
             let code = bind_commands::add_bind(binds, payload);

@@ -3,6 +3,7 @@
 #![tactic(auto)]
 
 ghost use Rattle.std.specs.Prelude.{◌≡◌, ◌%◌, length};
+ghost use Rattle.words.specs.Reasons.{fault_in};
 ghost use Rattle.rules.specs.Types.{Devices, Binds, Groups};
 ghost use Rattle.rules.specs.Lists.{any};
 ghost use Rattle.rules.specs.Tables.{used, matches, store, wipe, written};
@@ -16,20 +17,12 @@ ghost use Rattle.changing.specs.Changing.{coded, coding};
 use layouts::BIND;
 use words::{BindPart, Code, Reason};
 
-// Is the bind there?
+// Is the bind there? It is compared by value (document 01), and not where it stands as `records::has` compares.
 fn bind_there(binds: &[u8], bind: [u8; 8]) -> bool
     ensures { result ≡ any (matches 0 bind) (used (table Binds binds.now)) }
 {
-    let mut at = 0;
-    while BIND <= binds.len() - at {
-        let here = bind_records::bind_at(binds, at);
-        let free = records::free_at(binds, BIND, at);
-        if !free & bind_records::same_bind(here, bind) {
-            return true;
-        }
-        at += BIND;
-    }
-    false
+    binds.chunks_exact(BIND).any(|record| !records::is_free(record)
+        && bind_records::same_bind(bind_records::bind_at(record, 0), bind))
 }
 
 // Puts the bind into the first free record.
@@ -41,22 +34,19 @@ fn store_bind(binds: &mut [u8], bind: [u8; 8])
 }
 
 // What is wrong with an Add Bind: its length, its fields, or that the bind is there.
-pub fn add_fault(devices: &[u8], binds: &[u8], groups: &[u8], payload: &[u8]) -> Reason
-    ensures { result
+pub fn add_fault(devices: &[u8], binds: &[u8], groups: &[u8], payload: &[u8]) -> Result<(), Reason>
+    ensures { fault_in result
         ≡ add_fault (table Devices devices.now) (table Binds binds.now) (table Groups groups.now) payload.now }
 {
     if payload.len() != BIND {
-        return Reason::PayloadLength;
+        return Err(Reason::PayloadLength);
     }
     let bind = payloads::bind_of(payload);
-    let fault = faults::bind_fault(bind, devices, groups);
-    if fault.number() != 0 {
-        return fault;
-    }
+    faults::bind_fault(bind, devices, groups)?;
     if bind_there(binds, bind) {
-        return Reason::AlreadyPresent;
+        return Err(Reason::AlreadyPresent);
     }
-    Reason::NoFault
+    Ok(())
 }
 
 // Add Bind, of which nothing is wrong: the payload's eight octets, if one record is free.
@@ -82,6 +72,5 @@ pub fn remove_binds(binds: &mut [u8], part: BindPart, payload: &[u8]) -> Code
 {
     let from = bind_records::part_start(part);
     let want = payloads::wanted(part, payload);
-    let n = payload.len();
-    changing::remove(binds, BIND, from, &want[..n])
+    changing::remove(binds, BIND, from, &want[..payload.len()])
 }

@@ -22,16 +22,14 @@ pub fn bind_at(binds: &[u8], at: usize) -> [u8; 8]
     requires { at + size Binds ≤ length binds.now }
     ensures { result ≡ take (size Binds) (drop at binds.now) }
 {
-    let mut bind = [0; BIND];
-    octets::put(&mut bind, records::record_at(binds, BIND, at));
-    bind
+    records::copy_at(binds, at)
 }
 
 // Are they the same eight octets?
 pub fn same_bind(bind: [u8; 8], other: [u8; 8]) -> bool
     ensures { result ≡ matches 0 other bind }
 {
-    octets::same_at(&bind, 0, &other)
+    bind == other
 }
 
 pub fn bind_source(bind: [u8; 8]) -> DeviceAddress
@@ -68,8 +66,7 @@ pub fn bind_uid(bind: [u8; 8]) -> u16
 pub fn from_any_device(bind: [u8; 8]) -> bool
     ensures { result ≡ from_any_device bind }
 {
-    let source = bind_source(bind);
-    source.0 == DeviceAddress::ANY.0
+    bind_source(bind) == DeviceAddress::ANY
 }
 
 pub fn from_any_unit(bind: [u8; 8]) -> bool
@@ -120,11 +117,8 @@ pub fn part_start(part: BindPart) -> usize
     ensures { result ≡ part_start part }
 {
     match part {
-        BindPart::Whole => SOURCE,
-        BindPart::Source => SOURCE,
-        BindPart::SourceUnit => SOURCE,
-        BindPart::Destination => DESTINATION,
-        BindPart::DestinationUnit => DESTINATION,
+        BindPart::Whole | BindPart::Source | BindPart::SourceUnit => SOURCE,
+        BindPart::Destination | BindPart::DestinationUnit => DESTINATION,
     }
 }
 
@@ -133,9 +127,7 @@ pub fn part_length(part: BindPart) -> usize
 {
     match part {
         BindPart::Whole => BIND,
-        BindPart::Source => ADDRESS,
-        BindPart::SourceUnit => ADDRESS + 1,
-        BindPart::Destination => ADDRESS,
-        BindPart::DestinationUnit => ADDRESS + 1,
+        BindPart::Source | BindPart::Destination => ADDRESS,
+        BindPart::SourceUnit | BindPart::DestinationUnit => ADDRESS + 1,
     }
 }

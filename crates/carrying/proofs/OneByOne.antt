@@ -1,68 +1,43 @@
--- Laws of old records carried over one by one: one record, and the loop over all, where what is left to carry over gives the table.
-use Rattle.words.specs.Basics.{◌≡◌, refl, sym, ap, ◌∙◌, Bool, true, false, List, append-nil, map, ℕ, ◌+◌, ◌*◌, ◌-◌, ◌%◌, ◌<◌, ◌≤◌, arith, length, take, drop}
-use Rattle.words.specs.Basics.{replicate, drop-length, length-sets, sets}
-use Rattle.words.specs.Names.{device}
+-- Laws of the loop over old records, where what is left to carry over gives the table.
+use Rattle.words.specs.Basics.{◌≡◌, sym, ap, ◌∙◌, List, append-nil, map, ℕ, ◌+◌, ◌*◌, ◌%◌, ◌<◌, arith, length, length-append}
+use Rattle.words.specs.Basics.{drop-length, length-sets, sets}
 use Rattle.rules.specs.Types.{Devices}
-use Rattle.rules.specs.Octets.{octet, word, over}
-use Rattle.rules.specs.Tables.{Rec, records, bytes, is_free}
-use Rattle.rules.specs.Layout.{size, up_to, device_record}
+use Rattle.rules.specs.Octets.{over}
+use Rattle.rules.specs.Tables.{Rec, records, bytes}
+use Rattle.rules.specs.Layout.{size}
 use Rattle.rules.specs.Carry.{old_size, times, carried, carried_table}
-use Rattle.rules.proofs.Records.{octet-at, records-at, records_end}
 use Rattle.rules.proofs.Carried.{length-carried, length-table}
 use Rattle.octets.proofs.Runs.{sets_over, sets_behind}
+use Rattle.records.proofs.Walks.{Rest, Comes, left_more, left_end}
 
--- One record, free or in use
+-- i records are carried over; of chunks of n octets the octets t are left
+pub record Carrying (old new₀ new t : List ℕ) (n i : ℕ) : Type 0 where
+  pub room : length new ≡ times * length old
+  pub place : i * old_size + length t ≡ length old
+  pub left : Rest (λ rs. sets new (i * size Devices) (bytes (map carried rs))) old_size (sets new₀ 0 (carried_table old)) n t
 
-pub carried-free : (r : Rec) {b : Bool} → b ≡ is_free r → b ≡ true → replicate (size Devices) 255 ≡ carried r
-unfolding carried
-carried-free r h e =
-    let f : is_free r ≡ true = sym h ∙ e in
-    rw f
-
-module _ (at : ℕ) (old : List ℕ) where
-  word_in_record : word 0 (take old_size (drop at old)) ≡ word at old
-  unfolding word
-  word_in_record =
-      let z : at + 0 ≡ at = omega arith in
-      rw (octet-at old_size at 0 old (omega arith), octet-at old_size at 1 old (omega arith), z)
-
-  pub carried-used : {b : Bool} {w : ℕ} {us r : List ℕ} → b ≡ is_free (take old_size (drop at old)) → b ≡ false → w ≡ word at old
-      → us ≡ up_to (octet (at + 3) old) → r ≡ device_record (device w) (octet (at + 2) old) us → r ≡ carried (take old_size (drop at old))
-  unfolding carried
-  carried-used h e w u r =
-      let f : is_free (take old_size (drop at old)) ≡ false = sym h ∙ e in
-      rw (f, word_in_record, octet-at old_size at 2 old (omega arith), octet-at old_size at 3 old (omega arith), r, w, u)
-
--- The loop
-
-pub record Carrying (old new₀ new : List ℕ) (at to : ℕ) : Type 0 where
-  pub within : at ≤ length old
-  pub place : to ≡ times * at
-  pub same : length new ≡ length new₀
-  pub room : length new₀ ≡ times * length old
-  pub rest : sets new to (bytes (map carried (records old_size (drop at old)))) ≡ sets new₀ 0 (carried_table old)
-
-pub carrying_start : {old new : List ℕ} → length new ≡ times * length old → Carrying old new new 0 0
+pub carrying_start : {old new t : List ℕ} {n i : ℕ} → length new ≡ times * length old → t ≡ old → n ≡ old_size → i ≡ 0 → Carrying old new new t n i
 unfolding carried_table
-carrying_start h = record { within = omega arith; place = omega arith; same = refl; room = h; rest = refl }
+carrying_start {old} {new} h e f g = record {
+  room = h;
+  place = omega (arith, ap length e, g);
+  left = record { some = omega arith; size = f; rest = rw (e, g) };
+}
 
-pub carrying_more : {old new₀ new new' : List ℕ} {at to : ℕ} {r : Rec} → Carrying old new₀ new at to → at + old_size ≤ length old
-    → r ≡ carried (take old_size (drop at old)) → new' ≡ sets new to r → Carrying old new₀ new' (at + old_size) (to + size Devices)
-carrying_more {old} {new₀} {new} {new'} {at} {to} {r} c l e s =
-    let n : to + length (carried (take old_size (drop at old))) ≡ to + size Devices = rw (length-carried (take old_size (drop at old))) in
+pub carrying_more : {old new₀ new new' w t t' m m' : List ℕ} {n n' i i' j : ℕ} (r : Rec) → Carrying old new₀ new t n i → Comes n t r n' t' m m'
+    → j ≡ i → i' ≡ i + 1 → w ≡ carried r → new' ≡ sets new (j * size Devices) w → Carrying old new₀ new' t' n' i'
+carrying_more {old} {new₀} {new} {new'} {w} {t} {t'} {i = i} {i'} {j} r c s f g d e =
+    let n : i * size Devices + length (carried r) ≡ i' * size Devices = rw length-carried (omega arith) in
+    let h : new' ≡ sets new (i * size Devices) (carried r) = e ∙ rw (f, d) in
     record {
-      within = l;
-      place = omega arith;
-      same = ap length s ∙ length-sets new to r ∙ c.same;
-      room = c.room;
-      rest = rw (s, e, sets_behind new (carried (take old_size (drop at old))) (bytes (map carried (records old_size (drop (at + old_size) old)))) to n)
-          (rw (records-at old_size at old (omega arith) l) at c.rest);
+      room = ap length h ∙ length-sets new (i * size Devices) (carried r) ∙ c.room;
+      place = omega (arith, ap length s.1.0, s.1.1, c.left.size, c.place, length-append r t');
+      left = left_more r c.left s (rw h (sym (sets_behind new (carried r) (bytes (map carried (records old_size t'))) (i * size Devices) n)));
     }
 
-pub carrying_end : {old new₀ new : List ℕ} {at to : ℕ} → Carrying old new₀ new at to → length old - at < old_size → length old % old_size ≡ 0
+pub carrying_end : {old new₀ new t : List ℕ} {n i : ℕ} → Carrying old new₀ new t n i → length t < n → length old % old_size ≡ 0 → length new₀ ≡ times * length old
     → new ≡ carried_table old
 unfolding over
-carrying_end {old} {new₀} {new} {at} {to} c l h =
-    let n : length (carried_table old) ≡ length new₀ = length-table old h ∙ sym c.room in
-    let e : new ≡ sets new₀ 0 (carried_table old) = rw (records_end old_size at old l) at c.rest in
-    e ∙ sets_over (carried_table old) new₀ (omega arith) ∙ rw (n, drop-length, append-nil)
+carrying_end {old} {new₀} {new} c l h r =
+    let n : length (carried_table old) ≡ length new₀ = length-table old h ∙ sym r in
+    left_end c.left l ∙ sets_over (carried_table old) new₀ (omega arith) ∙ rw (n, drop-length, append-nil)

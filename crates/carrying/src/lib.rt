@@ -2,14 +2,12 @@
 // of units. The old record is known here alone.
 #![tactic(auto)]
 
-ghost use Rattle.std.specs.Prelude.{◌≡◌, ◌+◌, ◌*◌, ◌%◌, ◌≤◌, length, take, drop};
-ghost use Rattle.rules.specs.Lists.{all};
-ghost use Rattle.rules.specs.Tables.{records, used};
+ghost use Rattle.std.specs.Prelude.{◌≡◌, ◌*◌, ◌%◌, length};
+ghost use Rattle.words.specs.Outcomes.{without_length};
 ghost use Rattle.rules.specs.Carry.{old_size, old_fits, old_sound, carried, carried_table, times, carry_answer, carry_outcome, carried_over};
-ghost use Rattle.soundness.specs.Asking.{free_or};
 
 use layouts::{ADDRESS, DEVICE, MOST_DEVICES};
-use words::{DeviceAddress, Outcome};
+use words::{DeviceAddress, Refusal};
 
 // The octets of an old record, and where its rights and its highest unit stand.
 const OLD: usize = 4;
@@ -22,37 +20,12 @@ const HIGHEST: usize = 3;
 const TIMES: usize = 9;
 
 // Address, rights 0 or 1, highest unit 0 to 254.
-fn old_fits(rec: &[u8]) -> bool
-    requires { length rec.now ≡ old_size }
-    ensures { result ≡ old_fits rec.now }
+fn old_fits(record: &[u8]) -> bool
+    requires { length «record».now ≡ old_size }
+    ensures { result ≡ old_fits «record».now }
 {
-    let address = fitting::address_fits(octets::word_at(rec, 0));
-    address & (rec[RIGHTS] <= 1) & (rec[HIGHEST] <= DeviceAddress::HIGHEST_UNIT)
-}
-
-// "each record is free or has its fields in range"
-fn free_or_fits(rec: &[u8]) -> bool
-    requires { length rec.now ≡ old_size }
-    ensures { result ≡ free_or old_fits rec.now }
-{
-    if records::free_at(rec, rec.len(), 0) {
-        return true;
-    }
-    old_fits(rec)
-}
-
-// .. for every record.
-fn all_fit(old: &[u8]) -> bool
-    ensures { result ≡ all old_fits (used (records old_size old.now)) }
-{
-    let mut at = 0;
-    while OLD <= old.len() - at {
-        if !free_or_fits(records::record_at(old, OLD, at)) {
-            return false;
-        }
-        at += OLD;
-    }
-    true
+    let address = fitting::address_fits(octets::word_at(record, 0));
+    address & (record[RIGHTS] <= 1) & (record[HIGHEST] <= DeviceAddress::HIGHEST_UNIT)
 }
 
 // Is the old table sound by itself?
@@ -62,22 +35,22 @@ fn old_sound(old: &[u8]) -> bool
     if !soundness::whole_records(old, OLD, MOST_DEVICES) {
         return false;
     }
-    let fit = all_fit(old);
+    let fit = soundness::all_used(old, OLD, old_fits);
     let once = soundness::distinct(old, OLD, ADDRESS);
     fit & once
 }
 
-// The old record at `at` as a new one; a free one stays free.
-fn carried(old: &[u8], at: usize) -> [u8; 36]
-    requires { at + old_size ≤ length old.now }
-    ensures { result ≡ carried (take old_size (drop at old.now)) }
+// An old record as a new one; a free one stays free.
+fn carried(record: &[u8]) -> [u8; 36]
+    requires { length «record».now ≡ old_size }
+    ensures { result ≡ carried «record».now }
 {
-    if records::free_at(old, OLD, at) {
+    if records::is_free(record) {
         return [records::FREE; DEVICE];
     }
-    let address = DeviceAddress(octets::word_at(old, at));
-    let units = device_records::up_to(old[at + HIGHEST]);
-    device_records::device_record(address, old[at + RIGHTS], &units)
+    let address = DeviceAddress(octets::word_at(record, 0));
+    let units = device_records::up_to(record[HIGHEST]);
+    device_records::device_record(address, record[RIGHTS], &units)
 }
 
 // Every record of the old table, one after the other.
@@ -85,36 +58,30 @@ fn carry(old: &[u8], new: &mut [u8])
     requires { (length old.now % old_size ≡ 0) × (length new.old ≡ times * length old.now) }
     ensures { new.new ≡ carried_table old.now }
 {
-    let mut at = 0;
-    let mut to = 0;
-    while OLD <= old.len() - at {
-        octets::write_at(new, to, &carried(old, at));
-        at += OLD;
-        to += DEVICE;
+    for (i, record) in old.chunks_exact(OLD).enumerate() {
+        octets::write_at(new, i * DEVICE, &carried(record));
     }
 }
 
 // "16 for an unsound old table, then 17 where the new one isn't nine times its length": it looks, and writes nothing.
-fn carry_outcome(old: &[u8], new: &[u8]) -> Outcome
-    ensures { result ≡ carry_outcome old.now new.now }
+fn carry_outcome(old: &[u8], new: &[u8]) -> Result<(), Refusal>
+    ensures { without_length result ≡ carry_outcome old.now new.now }
 {
     if !old_sound(old) {
-        return Outcome::Unsound;
+        return Err(Refusal::Unsound);
     }
     if new.len() != TIMES * old.len() {
-        return Outcome::NoRoom;
+        return Err(Refusal::NoRoom);
     }
-    Outcome::Done(0)
+    Ok(())
 }
 
 // Carries an old device table over into a new one: every octet of the new table is written, or none.
-#[tactic(auto, using(crate::proofs::Settled::carry_refused, crate::proofs::Settled::carry_done))]
-pub fn carry_over(old: &[u8], new: &mut [u8]) -> Outcome
-    ensures { carry_answer result new.new ≡ carried_over old.now new.old }
+#[tactic(auto, using(crate::proofs::Settled::carry_refused, crate::proofs::Settled::carry_done, crate::proofs::Settled::passed))]
+pub fn carry_over(old: &[u8], new: &mut [u8]) -> Result<(), Refusal>
+    ensures { carry_answer (without_length result) new.new ≡ carried_over old.now new.old }
 {
-    let outcome = carry_outcome(old, new);
-    if outcome.number() == 0 {
-        carry(old, new);
-    }
-    outcome
+    carry_outcome(old, new)?;
+    carry(old, new);
+    Ok(())
 }

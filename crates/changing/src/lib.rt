@@ -35,7 +35,7 @@ pub fn add(given: &mut [u8], size: usize, record: &[u8]) -> Code
     let there = records::has(given, size, 0, record);
     let room = records::has_room(given, size);
     let code = addition(there, room);
-    if code.0 == Code::OK.0 {
+    if code == Code::OK {
         records::store(given, size, record);
     }
     code
@@ -70,7 +70,7 @@ pub fn write_word(out: &mut [u8], code: Code, word: u16) -> usize
     ensures { (result ≡ length (code.0 ∷ on_ok code (octets word) []))
         × (out.new ≡ over (code.0 ∷ on_ok code (octets word) []) out.old) }
 {
-    if code.0 != Code::OK.0 {
+    if code != Code::OK {
         return write_code(out, code);
     }
     octets::put(out, &[code.0, octets::high(word), octets::low(word)]);

@@ -13,24 +13,15 @@ ghost use Rattle.collecting.specs.Leaving.{left_out, leaving, members_but, bound
 use layouts::{BIND, MEMBER};
 use words::{Fields, GroupAddress};
 
-// Whom a collection leaves out: the sender, by its number, where the paper says so.
-#[derive(Clone, Copy)]
-pub enum Except {
-    Nobody,
-    Sender(u32),
-}
-
-// Is this unit left out? "without the sender"
-fn left_out(except: Except, u: u32) -> bool
+// Is this unit left out? "without the sender": a collection leaves out the sender, by its number, where the paper says so.
+fn left_out(except: Option<u32>, u: u32) -> bool
     ensures { result ≡ left_out except u }
 {
-    match except {
-        Except::Nobody => false,
-        Except::Sender(s) => u == s,
-    }
+    except == Some(u)
 }
 
-// The recipients so far stand in the lent list; their number is carried forward and handed back (document 01, Recipients).
+// The recipients so far stand in the lent list; their number is carried forward and handed back (document 01, Recipients), by value and beside the list, as
+// document 01 asks.
 #[derive(Drop)]
 pub struct Recipients {
     pub count: usize,
@@ -58,7 +49,7 @@ impl Recipients {
     }
 
     // .. and unless it is left out.
-    fn take_unless(self, list: &mut [u8], except: Except, u: u32) -> Self
+    fn take_unless(self, list: &mut [u8], except: Option<u32>, u: u32) -> Self
         requires { (u < 2 ^ 24) × Enough (leaving except (u ∷ [])) self.count list.old }
         ensures { Taken (leaving except (u ∷ [])) self.count list.old result.count list.new }
     {
@@ -68,49 +59,53 @@ impl Recipients {
         self.take(list, u)
     }
 
-    // The member in the record at `at`, where it is used and of this group.
+    // The member in the record, where it is used and of this group.
     fn take_member(
         self,
         list: &mut [u8],
-        members: &[u8],
-        at: usize,
+        record: &[u8],
         group: GroupAddress,
-        except: Except,
+        except: Option<u32>,
     ) -> Self
-        requires { (at + size Members ≤ length members.now)
-            × Enough (members_but except group (take (size Members) (drop at members.now) ∷ [])) self.count list.old }
-        ensures { Taken (members_but except group (take (size Members) (drop at members.now) ∷ []))
+        requires { (length «record».now ≡ size Members)
+            × Enough (members_but except group («record».now ∷ [])) self.count list.old }
+        ensures { Taken (members_but except group («record».now ∷ []))
             self.count list.old result.count list.new }
     {
-        if !matching::is_member(members, at, group) {
+        if !matching::is_member(record, group) {
             return self;
         }
-        self.take_unless(list, except, matching::member_number(members, at))
+        self.take_unless(list, except, matching::member_number(record))
     }
 
-    // The members of a group (document 01, Recipients; Commands and codes, Get Group Info).
+    // The members of a group (document 01, Recipients; Commands and codes, Get Group Info). This and `take_bound` are loops, and no `fold`: its closure would
+    // write the lent list, of which nothing would be known behind it.
     pub fn take_members(
         self,
         list: &mut [u8],
         members: &[u8],
         group: GroupAddress,
-        except: Except,
+        except: Option<u32>,
     ) -> Self
         requires { Enough (members_but except group (table Members members.now)) self.count list.old }
         ensures { Taken (members_but except group (table Members members.now))
             self.count list.old result.count list.new }
     {
         let mut r = self;
-        let mut at = 0;
-        while MEMBER <= members.len() - at {
-            r = r.take_member(list, members, at, group, except);
-            at += MEMBER;
+        for record in members.chunks_exact(MEMBER) {
+            r = r.take_member(list, record, group, except);
         }
         r
     }
 
     // Whom a bind reaches: "the named unit or the group's members". The unit octet of a group bind plays no part.
-    fn take_reached(self, list: &mut [u8], members: &[u8], bind: [u8; 8], except: Except) -> Self
+    fn take_reached(
+        self,
+        list: &mut [u8],
+        members: &[u8],
+        bind: [u8; 8],
+        except: Option<u32>,
+    ) -> Self
         requires { Enough (leaving except (reached (table Members members.now) bind)) self.count list.old }
         ensures { Taken (leaving except (reached (table Members members.now) bind))
             self.count list.old result.count list.new }
@@ -121,25 +116,24 @@ impl Recipients {
         self.take_unless(list, except, bind_records::bind_to(bind))
     }
 
-    // .. where the bind at `at` is used and matches the message.
+    // .. where the bind in the record is used and matches the message.
     pub fn take_bind(
         self,
         list: &mut [u8],
-        binds: &[u8],
-        at: usize,
+        record: &[u8],
         members: &[u8],
         f: Fields,
-        except: Except,
+        except: Option<u32>,
     ) -> Self
-        requires { (at + size Binds ≤ length binds.now)
-            × Enough (bound_but except f (table Members members.now) (take (size Binds) (drop at binds.now) ∷ [])) self.count list.old }
-        ensures { Taken (bound_but except f (table Members members.now) (take (size Binds) (drop at binds.now) ∷ []))
+        requires { (length «record».now ≡ size Binds)
+            × Enough (bound_but except f (table Members members.now) («record».now ∷ [])) self.count list.old }
+        ensures { Taken (bound_but except f (table Members members.now) («record».now ∷ []))
             self.count list.old result.count list.new }
     {
-        if !matching::is_match(binds, at, f) {
+        if !matching::is_match(record, f) {
             return self;
         }
-        self.take_reached(list, members, bind_records::bind_at(binds, at), except)
+        self.take_reached(list, members, bind_records::bind_at(record, 0), except)
     }
 
     // Whom the binds reach that match the message.
@@ -149,17 +143,15 @@ impl Recipients {
         binds: &[u8],
         members: &[u8],
         f: Fields,
-        except: Except,
+        except: Option<u32>,
     ) -> Self
         requires { Enough (bound_but except f (table Members members.now) (table Binds binds.now)) self.count list.old }
         ensures { Taken (bound_but except f (table Members members.now) (table Binds binds.now))
             self.count list.old result.count list.new }
     {
         let mut r = self;
-        let mut at = 0;
-        while BIND <= binds.len() - at {
-            r = r.take_bind(list, binds, at, members, f, except);
-            at += BIND;
+        for record in binds.chunks_exact(BIND) {
+            r = r.take_bind(list, record, members, f, except);
         }
         r
     }

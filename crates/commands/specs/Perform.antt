@@ -1,5 +1,5 @@
 -- A command whole: all checks, its own part, and sessions closed where it changes the binds.
-use Rattle.std.specs.Prelude.{Bool, true, false, List, ℕ}
+use Rattle.std.specs.Prelude.{Bool, true, false, List, ℕ, Option}
 use Rattle.rules.specs.Types.{DeviceAddress, Code, Reason, Command, AddBind, RemoveBinds, StartSession, EndSession, GetEntries, CreateGroup}
 use Rattle.rules.specs.Types.{DeleteGroup, AddToGroup, RemoveFromGroup, GetGroupInfo}
 use Rattle.rules.specs.Lists.{any}
@@ -17,7 +17,7 @@ judging L s k p out =
     performing L (done (tables L) s k p c) k p c out
 
 -- what its caller is told of that code
-abbrev pub reasoning : Lent → DeviceAddress → Command → List ℕ → Reason
+abbrev pub reasoning : Lent → DeviceAddress → Command → List ℕ → Option Reason
 reasoning L s k p = explained (tables L) k p (judge (tables L) s k p)
 
 -- does a command that is granted change the binds? Add Bind and the Remove commands do; Delete Group does where a bind to the group is there

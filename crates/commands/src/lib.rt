@@ -6,38 +6,44 @@ ghost use Rattle.std.specs.Prelude.{◌≡◌, true, cond, [], ◌∷◌, ◌+�
 ghost use Rattle.words.specs.Names.{header_length, longest};
 ghost use Rattle.rules.specs.Types.{Devices, Binds};
 ghost use Rattle.rules.specs.Octets.{over};
-ghost use Rattle.rules.specs.Frame.{Lent, beside, table, tables};
+ghost use Rattle.rules.specs.Frame.{table, tables};
+ghost use Rattle.lent.specs.Held.{held, viewed, SameTables};
+ghost use Rattle.words.specs.Reasons.{fault_in};
 ghost use Rattle.rules.specs.Exists.{has_rights};
 ghost use Rattle.rules.specs.Commands.{row};
 ghost use Rattle.acting.specs.Acting.{Workable, performed};
 ghost use Rattle.commands.specs.Perform.{judging, reasoning, touches};
 
+use lent::{Tables, View};
 use words::{Code, Command, DeviceAddress, Reason};
 
 // What performing a command gives: how many octets its reply has behind the header, and why an Add Bind was answered 0x02.
 #[derive(Drop)]
 pub struct Performed {
     pub length: usize,
-    pub reason: Reason,
+    pub reason: Option<Reason>,
 }
 
-// What is wrong with the command's payload, where its caller is told: of Add Bind alone.
-fn fault_of(devices: &[u8], binds: &[u8], groups: &[u8], command: Command, payload: &[u8]) -> Reason
-    ensures { (L : Lent)
-        → result ≡ (row command).fault (tables (beside L devices.now binds.now groups.now L.members L.sessions))
-        payload.now }
+// What is wrong with the command's payload, where its caller is told: of Add Bind alone. Here and below every command is named, so that none can be forgotten.
+fn fault_of(given: View<'_>, command: Command, payload: &[u8]) -> Result<(), Reason>
+    ensures { fault_in result ≡ (row command).fault (tables (viewed given.entry)) payload.now }
 {
     match command {
-        Command::AddBind => bind_commands::add_fault(devices, binds, groups, payload),
-        Command::RemoveBinds(_) => Reason::NoFault,
-        Command::StartSession => Reason::NoFault,
-        Command::EndSession => Reason::NoFault,
-        Command::GetEntries(_) => Reason::NoFault,
-        Command::CreateGroup => Reason::NoFault,
-        Command::DeleteGroup => Reason::NoFault,
-        Command::AddToGroup => Reason::NoFault,
-        Command::RemoveFromGroup => Reason::NoFault,
-        Command::GetGroupInfo => Reason::NoFault,
+        Command::AddBind => bind_commands::add_fault(
+            given.devices,
+            given.binds,
+            given.groups,
+            payload,
+        ),
+        Command::RemoveBinds(_) => Ok(()),
+        Command::StartSession => Ok(()),
+        Command::EndSession => Ok(()),
+        Command::GetEntries(_) => Ok(()),
+        Command::CreateGroup => Ok(()),
+        Command::DeleteGroup => Ok(()),
+        Command::AddToGroup => Ok(()),
+        Command::RemoveFromGroup => Ok(()),
+        Command::GetGroupInfo => Ok(()),
     }
 }
 
@@ -72,57 +78,44 @@ fn rights_fit(devices: &[u8], source: DeviceAddress, asked: bool) -> bool
 }
 
 // A command that is refused: its code is the whole reply.
-fn refuse(out: &mut [u8], code: Code, reason: Reason) -> Performed
+fn refuse(out: &mut [u8], code: Code, reason: Option<Reason>) -> Performed
     requires { 1 ≤ length out.old }
     ensures { (result.length ≡ 1) × (result.reason ≡ reason) × (out.new ≡ over (code.0 ∷ []) out.old) }
 {
-    let n = changing::write_code(out, code);
-    Performed {
-        length: n,
-        reason: reason,
-    }
+    let length = changing::write_code(out, code);
+    Performed { length, reason }
 }
 
 // Performs a command of the device `source` on sound tables. The payload of its reply goes over `out`, the part of the lent reply behind the header.
 pub fn perform(
-    devices: &[u8],
-    binds: &mut [u8],
-    groups: &mut [u8],
-    members: &mut [u8],
-    sessions: &mut [u8],
+    tables: &mut Tables<'_>,
     source: DeviceAddress,
     command: Command,
     payload: &[u8],
     out: &mut [u8],
 ) -> Performed
-    requires { Workable devices.now binds.old groups.old members.old sessions.old × (longest ≤ header_length + length out.old) }
-    ensures { (L : Lent)
-        → (performed result.length (beside L devices.now binds.new groups.new members.new sessions.new)
-        out.new
-        ≡ judging (beside L devices.now binds.old groups.old members.old sessions.old) source command
-        payload.now out.old)
-        × (result.reason
-        ≡ reasoning (beside L devices.now binds.old groups.old members.old sessions.old) source command
-        payload.now) }
+    requires { Workable (held tables.old) × (longest ≤ header_length + length out.old) }
+    ensures same { SameTables tables.new tables.old }
+    ensures performed { performed result.length (held tables.new) out.new ≡ judging (held tables.old) source command payload.now out.old }
+    ensures reason { result.reason ≡ reasoning (held tables.old) source command payload.now }
 {
+    let given = tables.view();
     let asked = decoding::demands(command, payload);
-    if !rights_fit(devices, source, asked.rights) {
-        return refuse(out, Code::not_authorized(), Reason::NoFault);
+    if !rights_fit(given.devices, source, asked.rights) {
+        return refuse(out, Code::not_authorized(), None);
     }
-    let reason = fault_of(devices, binds, groups, command, payload);
+    let fault = fault_of(given, command, payload);
     if payload.len() != asked.length {
-        return refuse(out, Code::invalid_argument(), reason);
+        return refuse(out, Code::invalid_argument(), fault.err());
     }
-    if reason.number() != 0 {
-        return refuse(out, Code::invalid_argument(), reason);
+    if let Err(reason) = fault {
+        return refuse(out, Code::invalid_argument(), Some(reason));
     }
-    let touching = touches(binds, command, payload);
-    let n = acting::act(
-        devices, binds, groups, members, sessions, source, command, payload, out,
-    );
-    sessions::close_all(sessions, touching & (out[0] == Code::OK.0));
+    let touching = touches(given.binds, command, payload);
+    let length = acting::act(tables, source, command, payload, out);
+    sessions::close_all(tables.sessions, touching & (out[0] == Code::OK.0));
     Performed {
-        length: n,
-        reason: Reason::NoFault,
+        length,
+        reason: None,
     }
 }

@@ -1,35 +1,34 @@
--- Laws of copies: what copying answers, by the number of the outcome of reading and whether the copy fits.
-use Rattle.words.specs.Basics.{◌≡◌, sym, ◌∙◌, Bool, true, false, not, List, [], ◌∷◌, ◌++◌, ℕ, ◌≤◌, arith, length, sets, not-true, not-false, leb-true}
+-- Laws of copies: what copying answers, by what was read and whether the copy fits.
+use Rattle.std.specs.Prelude.{Ok, Err}
+use Rattle.words.specs.Basics.{◌≡◌, sym, ◌∙◌, Bool, true, false, List, [], ◌∷◌, ◌++◌, ℕ, ◌≤◌, arith, length, sets, leb-true}
 use Rattle.words.specs.Names.{header_length}
-use Rattle.words.specs.Outcomes.{number_of}
-use Rattle.rules.specs.Types.{DeviceAddress, Done, NoCopy, Reading}
+use Rattle.rules.specs.Types.{DeviceAddress, Fields, Refusal, Done, NoCopy}
 use Rattle.rules.specs.Octets.{octets, over}
-use Rattle.rules.specs.Message.{reading}
+use Rattle.rules.specs.Message.{read_as, reading}
 use Rattle.rules.specs.Copy.{copied, copy_fits, copy_answer, copy}
 use Rattle.rules.proofs.Lists.{split, ask_pass, ask_fail}
 use Rattle.messages.proofs.Reading.{reads_on, reads-refused}
 use Rattle.messages.proofs.Replies.{sets_in}
 
--- r was read, n is the number of its outcome, and b says whether the copy fits
 module _ (m room : List ℕ) (d : DeviceAddress) (u : ℕ) where
-  module _ {r : Reading} {n : ℕ} (e : r ≡ reading m) (k : n ≡ number_of r.outcome) where
-    pub copy-refused : (n ≡ 0 → ⊥) → copy_answer r.outcome room ≡ copy m room d u
-    unfolding copy
-    copy-refused z = sym (reads-refused m e k (λ o. copy_answer o room) _ z)
+  pub copy-refused : {why : Refusal} → read_as (Err why) ≡ reading m → copy_answer (Err why) room ≡ copy m room d u
+  unfolding copy
+  copy-refused e = sym (reads-refused m e (λ why. copy_answer (Err why) room) _)
 
-    pub copy_unfit : {b : Bool} → n ≡ 0 → b ≡ copy_fits m room d u → not b ≡ true → copy_answer NoCopy room ≡ copy m room d u
+  -- f was read, and b says whether the copy fits
+  module _ {f : Fields} {b : Bool} (e : read_as (Ok f) ≡ reading m) (h : b ≡ copy_fits m room d u) where
+    pub copy_unfit : b ≡ false → copy_answer (Err NoCopy) room ≡ copy m room d u
     unfolding copy
-    copy_unfit z h t = sym (reads_on m e k (λ o. copy_answer o room) _ z ∙ ask_fail _ _ (sym h ∙ not-true _ t))
+    copy_unfit t = sym (reads_on m e (λ why. copy_answer (Err why) room) _ ∙ ask_fail _ _ (sym h ∙ t))
 
-    pub copy_done : {b : Bool} → n ≡ 0 → b ≡ copy_fits m room d u → not b ≡ false
-        → copy_answer (Done (length m)) (over (copied m d u) room) ≡ copy m room d u
+    pub copy_done : b ≡ true → copy_answer (Ok (Done (length m))) (over (copied m d u) room) ≡ copy m room d u
     unfolding copy
-    copy_done z h t = sym (reads_on m e k (λ o. copy_answer o room) _ z ∙ ask_pass _ _ (sym h ∙ not-false _ t))
+    copy_done t = sym (reads_on m e (λ why. copy_answer (Err why) room) _ ∙ ask_pass _ _ (sym h ∙ t))
 
   -- a copy that fits has room
-  pub copy-room : {b : Bool} → b ≡ copy_fits m room d u → not b ≡ false → length m ≤ length room
+  pub copy-room : {b : Bool} → b ≡ copy_fits m room d u → b ≡ true → length m ≤ length room
   unfolding copy_fits
-  copy-room h t = leb-true (length m) (length room) (split (split (sym h ∙ not-false _ t)).0).0
+  copy-room h t = leb-true (length m) (length room) (split (split (sym h ∙ t)).0).0
 
   -- octets 4 to 6 stored in the room where the message was put are stored in the message
   pub copied-over : header_length ≤ length m → sets (over m room) 3 (octets d.0 ++ u ∷ []) ≡ over (copied m d u) room

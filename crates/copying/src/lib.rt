@@ -3,12 +3,14 @@
 
 ghost use Rattle.std.specs.Prelude.{◌≡◌, [], ◌∷◌, ◌++◌, ◌≤◌, length};
 ghost use Rattle.words.specs.Names.{header_length};
+ghost use Rattle.words.specs.Outcomes.{with_length};
 ghost use Rattle.rules.specs.Octets.{octets, over};
 ghost use Rattle.rules.specs.Copy.{copied, copy_fits, copy_answer, copy};
 
-use words::{DeviceAddress, Outcome};
+use words::{DeviceAddress, Refusal};
 
 // Outcome 19: the room, the device and the unit that a copy needs.
+#[tactic(auto, using(messages::proofs::Reading::and_is), unfolding(rules::specs::Copy::copy_fits))]
 fn copy_fits(message: &[u8], room: &[u8], device: DeviceAddress, unit: u8) -> bool
     ensures { result ≡ copy_fits message.now room.now device unit }
 {
@@ -18,6 +20,7 @@ fn copy_fits(message: &[u8], room: &[u8], device: DeviceAddress, unit: u8) -> bo
 }
 
 // Octets 4 to 6 of a copy: type 0, device, unit.
+#[tactic(auto, unfolding(rules::specs::Octets::octets))]
 fn destination_octets(device: DeviceAddress, unit: u8) -> [u8; 3]
     ensures { result ≡ octets device.0 ++ unit ∷ [] }
 {
@@ -35,16 +38,18 @@ fn write_copy(message: &[u8], room: &mut [u8], device: DeviceAddress, unit: u8)
 }
 
 // Copies a message to one unit of a device (document 01, Recipients). Octets of the room past the copy stay.
-pub fn copy(message: &[u8], room: &mut [u8], device: DeviceAddress, unit: u8) -> Outcome
-    ensures { copy_answer result room.new ≡ copy message.now room.old device unit }
+pub fn copy(
+    message: &[u8],
+    room: &mut [u8],
+    device: DeviceAddress,
+    unit: u8,
+) -> Result<usize, Refusal>
+    ensures { copy_answer (with_length result) room.new ≡ copy message.now room.old device unit }
 {
-    let outcome = messages::read(message).outcome;
-    if outcome.number() != 0 {
-        return outcome;
-    }
+    messages::read(message)?;
     if !copy_fits(message, room, device, unit) {
-        return Outcome::NoCopy;
+        return Err(Refusal::NoCopy);
     }
     write_copy(message, room, device, unit);
-    Outcome::Done(message.len())
+    Ok(message.len())
 }

@@ -19,16 +19,13 @@ fn new_group(groups: &[u8]) -> GroupAddress
     requires { length groups.now ≤ full Groups }
     ensures { result ≡ new_group (table Groups groups.now) }
 {
-    let mut address = DeviceAddress::LOWEST;
-    let mut left = groups.len() / GROUP;
-    while 0 < left {
+    let last = DeviceAddress::LOWEST + (groups.len() / GROUP) as u16;
+    for address in DeviceAddress::LOWEST..last {
         if !existing::group_exists(groups, GroupAddress(address)) {
             return GroupAddress(address);
         }
-        address += 1;
-        left -= 1;
     }
-    GroupAddress(address)
+    GroupAddress(last)
 }
 
 // The code of Create Group behind rights and length: the name fits, and a record is free.
@@ -54,7 +51,7 @@ fn create_group(groups: &mut [u8], group: GroupAddress, payload: &[u8]) -> Code
         (store (group_record group payload.now)) groups.old }
 {
     let code = creation(groups, payload);
-    if code.0 == Code::OK.0 {
+    if code == Code::OK {
         let record = layouts::group_record(group, payload);
         records::store(groups, GROUP, &record);
     }

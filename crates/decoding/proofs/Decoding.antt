@@ -1,33 +1,23 @@
--- Laws of the decoder: one command after the other, the checks before them, and the first octet of a payload.
-use Rattle.words.specs.Basics.{◌≡◌, refl, Bool, cond, List, [], ◌∷◌, ℕ, ◌+◌, ◌<◌, ◌≤◌, arith, length, eq-eqb, ne_eqb, le-leb, lt-leb}
+-- Laws of the decoder: the checks that stand before a command's number.
+use Rattle.std.specs.Prelude.{None}
+use Rattle.words.specs.Basics.{◌≡◌, ◌<◌, ◌≤◌, eq-eqb, ne_eqb, le-leb, lt-leb}
 use Rattle.words.specs.Names.{command_type, asking_type, flag_set, bind_management, group_management}
-use Rattle.words.specs.declared.Decoded.TheVariants.{NotServed}
-use Rattle.rules.specs.Types.{Command, Decoded, Is, Fields}
+use Rattle.rules.specs.Types.{Fields}
 use Rattle.rules.specs.Lists.{ask, ◌&◌}
-use Rattle.rules.specs.Octets.{octet}
 use Rattle.rules.specs.Payloads.{bind_command, group_command, command}
-
--- the first octet of nothing is 0
-pub first_of-none : (s : List ℕ) → length s ≡ 0 → 1 ≡ 1 + octet 0 s
-first_of-none [] h = refl
-first_of-none (o ∷ s) h = absurd (omega arith)
-
--- a command, or else what the members behind it say
-pub then_rest : (b : Bool) (k : Command) (r s t : Decoded) → r ≡ cond b (Is k) s → s ≡ t → r ≡ cond b (Is k) t
-then_rest b k r s t p q = cc
 
 -- a type below those of commands, and one above them
 
-pub type_below : (f : Fields) → f.message_type < command_type → command f ≡ NotServed
+pub type_below : (f : Fields) → f.message_type < command_type → command f ≡ None
 unfolding command ask ◌&◌
 type_below f t = simp (lt-leb _ _ t)
 
-pub type_above : (f : Fields) → command_type ≤ f.message_type → asking_type < f.message_type → command f ≡ NotServed
+pub type_above : (f : Fields) → command_type ≤ f.message_type → asking_type < f.message_type → command f ≡ None
 unfolding command ask ◌&◌
 type_above f l t = simp (le-leb _ _ l, lt-leb _ _ t)
 
 -- a command's type, to a client interface
-pub to_client : (f : Fields) → command_type ≤ f.message_type → f.message_type ≤ asking_type → (f.interface_type ≡ flag_set → ⊥) → command f ≡ NotServed
+pub to_client : (f : Fields) → command_type ≤ f.message_type → f.message_type ≤ asking_type → (f.interface_type ≡ flag_set → ⊥) → command f ≡ None
 unfolding command ask ◌&◌
 to_client f l h i = simp (le-leb _ _ l, le-leb _ _ h, ne_eqb _ _ i)
 
@@ -41,7 +31,7 @@ module _ (f : Fields) (l : command_type ≤ f.message_type) (h : f.message_type 
   unfolding command ask ◌&◌
   of_groups b u = simp (le-leb _ _ l, le-leb _ _ h, eq-eqb _ _ i, ne_eqb _ _ b, eq-eqb _ _ u)
 
-  pub of_neither : (f.uid ≡ bind_management → ⊥) → (f.uid ≡ group_management → ⊥) → command f ≡ NotServed
+  pub of_neither : (f.uid ≡ bind_management → ⊥) → (f.uid ≡ group_management → ⊥) → command f ≡ None
   unfolding command ask ◌&◌
   of_neither b g = simp (le-leb _ _ l, le-leb _ _ h, eq-eqb _ _ i, ne_eqb _ _ b, ne_eqb _ _ g)
 

@@ -1,13 +1,13 @@
 // Which command a message is, and what stands before its own checks (document 01, Commands and codes).
 #![tactic(auto)]
 
-ghost use Rattle.std.specs.Prelude.{◌≡◌, cond};
-ghost use Rattle.rules.specs.Types.{CreateGroup, Is};
+ghost use Rattle.std.specs.Prelude.{◌≡◌};
+ghost use Rattle.rules.specs.Types.{CreateGroup};
 ghost use Rattle.rules.specs.Payloads.{read_command, bind_command, group_command, command};
 ghost use Rattle.rules.specs.Sessions.{filter_length};
 ghost use Rattle.rules.specs.Commands.{row};
 
-use words::{BindPart, Command, Decoded, Fields, Filter};
+use words::{BindPart, Command, Fields, Filter};
 
 // The two checks that stand before every command's own: whether rights are asked, and how long the payload should be.
 #[derive(Drop)]
@@ -16,125 +16,78 @@ pub struct Asked {
     pub length: usize,
 }
 
-// The command where the member is its own, or else what the members behind it say.
-fn command_or(named: bool, command: Command, rest: Decoded) -> Decoded
-    ensures { result ≡ cond named (Is command) rest }
-{
-    if named { Decoded::Is(command) } else { rest }
-}
-
-// Bind Management, what reads binds back, by member, from the last to the first: `rest` is what the members behind one say.
-fn read_command(member: u8) -> Decoded
+// Bind Management, what reads binds back, by member.
+#[tactic(auto, unfolding(rules::specs::Payloads::read_command))]
+fn read_command(member: u8) -> Option<Command>
     ensures { result ≡ read_command member }
 {
-    let rest = Decoded::NotServed;
-    let rest = command_or(
-        member == Command::GET_BY_DESTINATION_UNIT,
-        Command::GetEntries(Filter::Part(BindPart::DestinationUnit)),
-        rest,
-    );
-    let rest = command_or(
-        member == Command::GET_BY_DESTINATION,
-        Command::GetEntries(Filter::Part(BindPart::Destination)),
-        rest,
-    );
-    let rest = command_or(
-        member == Command::GET_BY_SOURCE_UNIT,
-        Command::GetEntries(Filter::Part(BindPart::SourceUnit)),
-        rest,
-    );
-    let rest = command_or(
-        member == Command::GET_BY_SOURCE,
-        Command::GetEntries(Filter::Part(BindPart::Source)),
-        rest,
-    );
-    let rest = command_or(
-        member == Command::GET_BY_INDEX,
-        Command::GetEntries(Filter::Index),
-        rest,
-    );
-    let rest = command_or(member == Command::END_SESSION, Command::EndSession, rest);
-    command_or(
-        member == Command::START_SESSION,
-        Command::StartSession,
-        rest,
-    )
+    match member {
+        Command::START_SESSION => Some(Command::StartSession),
+        Command::END_SESSION => Some(Command::EndSession),
+        Command::GET_BY_INDEX => Some(Command::GetEntries(Filter::Index)),
+        Command::GET_BY_SOURCE => Some(Command::GetEntries(Filter::Part(BindPart::Source))),
+        Command::GET_BY_SOURCE_UNIT => Some(Command::GetEntries(Filter::Part(
+            BindPart::SourceUnit,
+        ))),
+        Command::GET_BY_DESTINATION => Some(Command::GetEntries(Filter::Part(
+            BindPart::Destination,
+        ))),
+        Command::GET_BY_DESTINATION_UNIT => Some(Command::GetEntries(Filter::Part(
+            BindPart::DestinationUnit,
+        ))),
+        _ => None,
+    }
 }
 
 // .. and what changes them, in the same way.
-fn bind_command(member: u8) -> Decoded
+#[tactic(auto, unfolding(rules::specs::Payloads::bind_command))]
+fn bind_command(member: u8) -> Option<Command>
     ensures { result ≡ bind_command member }
 {
-    let rest = read_command(member);
-    let rest = command_or(
-        member == Command::REMOVE_BY_DESTINATION_UNIT,
-        Command::RemoveBinds(BindPart::DestinationUnit),
-        rest,
-    );
-    let rest = command_or(
-        member == Command::REMOVE_BY_DESTINATION,
-        Command::RemoveBinds(BindPart::Destination),
-        rest,
-    );
-    let rest = command_or(
-        member == Command::REMOVE_BY_SOURCE_UNIT,
-        Command::RemoveBinds(BindPart::SourceUnit),
-        rest,
-    );
-    let rest = command_or(
-        member == Command::REMOVE_BY_SOURCE,
-        Command::RemoveBinds(BindPart::Source),
-        rest,
-    );
-    let rest = command_or(
-        member == Command::REMOVE_BIND,
-        Command::RemoveBinds(BindPart::Whole),
-        rest,
-    );
-    command_or(member == Command::ADD_BIND, Command::AddBind, rest)
+    match member {
+        Command::ADD_BIND => Some(Command::AddBind),
+        Command::REMOVE_BIND => Some(Command::RemoveBinds(BindPart::Whole)),
+        Command::REMOVE_BY_SOURCE => Some(Command::RemoveBinds(BindPart::Source)),
+        Command::REMOVE_BY_SOURCE_UNIT => Some(Command::RemoveBinds(BindPart::SourceUnit)),
+        Command::REMOVE_BY_DESTINATION => Some(Command::RemoveBinds(BindPart::Destination)),
+        Command::REMOVE_BY_DESTINATION_UNIT => Some(Command::RemoveBinds(
+            BindPart::DestinationUnit,
+        )),
+        _ => read_command(member),
+    }
 }
 
 // Group Management, by member, likewise.
-fn group_command(member: u8) -> Decoded
+#[tactic(auto, unfolding(rules::specs::Payloads::group_command))]
+fn group_command(member: u8) -> Option<Command>
     ensures { result ≡ group_command member }
 {
-    let rest = Decoded::NotServed;
-    let rest = command_or(
-        member == Command::GET_GROUP_INFO,
-        Command::GetGroupInfo,
-        rest,
-    );
-    let rest = command_or(
-        member == Command::REMOVE_FROM_GROUP,
-        Command::RemoveFromGroup,
-        rest,
-    );
-    let rest = command_or(member == Command::ADD_TO_GROUP, Command::AddToGroup, rest);
-    let rest = command_or(member == Command::DELETE_GROUP, Command::DeleteGroup, rest);
-    command_or(member == Command::CREATE_GROUP, Command::CreateGroup, rest)
+    match member {
+        Command::CREATE_GROUP => Some(Command::CreateGroup),
+        Command::DELETE_GROUP => Some(Command::DeleteGroup),
+        Command::ADD_TO_GROUP => Some(Command::AddToGroup),
+        Command::REMOVE_FROM_GROUP => Some(Command::RemoveFromGroup),
+        Command::GET_GROUP_INFO => Some(Command::GetGroupInfo),
+        _ => None,
+    }
 }
 
 // One of the commands as type 0x01 or 0x02 to a server interface, or what is not served.
 #[tactic(auto, using(crate::proofs::Decoding::checks))]
-pub fn command(f: Fields) -> Decoded
+pub fn command(f: Fields) -> Option<Command>
     ensures { result ≡ command f }
 {
-    if f.message_type < Fields::COMMAND {
-        return Decoded::NotServed;
-    }
-    if Fields::COMMAND_ASKING < f.message_type {
-        return Decoded::NotServed;
+    if !matches!(f.message_type, Fields::COMMAND | Fields::COMMAND_ASKING) {
+        return None;
     }
     if f.interface_type != Fields::SET {
-        return Decoded::NotServed;
+        return None;
     }
-    if f.uid == Fields::BIND_MANAGEMENT {
-        return bind_command(f.member);
+    match f.uid {
+        Fields::BIND_MANAGEMENT => bind_command(f.member),
+        Fields::GROUP_MANAGEMENT => group_command(f.member),
+        _ => None,
     }
-    if f.uid == Fields::GROUP_MANAGEMENT {
-        return group_command(f.member);
-    }
-    Decoded::NotServed
 }
 
 // The length that Create Group asks: name length and name, "so an empty payload is wrong". The contract alone asks which command it is.
@@ -142,10 +95,10 @@ fn length_with_name(command: Command, payload: &[u8]) -> usize
     requires { command ≡ CreateGroup }
     ensures { result ≡ (row command).length payload.now }
 {
-    if payload.len() == 0 {
-        return 1;
+    match payload {
+        [] => 1,
+        [name_length, ..] => 1 + *name_length as usize,
     }
-    1 + payload[0] as usize
 }
 
 // The octets of a payload by index: a start index of 16 bits and a number.
@@ -165,10 +118,7 @@ fn asking(rights: bool, length: usize) -> Asked
     ensures rights { result.rights ≡ rights }
     ensures length { result.length ≡ length }
 {
-    Asked {
-        rights: rights,
-        length: length,
-    }
+    Asked { rights, length }
 }
 
 // What a command asks: the sender's rights, but for Get Group Info, End and the reads, and the length of this payload.

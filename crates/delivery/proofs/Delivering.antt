@@ -1,4 +1,5 @@
 -- Laws of delivery: what was collected from none on is put in order, and is what the rules say.
+use Rattle.std.specs.Prelude.{Some}
 use Rattle.words.specs.Basics.{◌≡◌, refl, sym, ap, ◌∙◌, true, List, [], ◌∷◌, flat_map, ℕ, ◌+◌, ◌*◌, ◌/◌, ◌%◌, ◌≤◌, max, arith, eqb, leb, length, leb-true}
 use Rattle.words.specs.Names.{longest}
 use Rattle.words.specs.declared.Destination.{Destination}
@@ -16,7 +17,6 @@ use Rattle.rules.proofs.Order.{length-ordered, length-unit_octets}
 use Rattle.rules.proofs.Kept.{sound-at}
 use Rattle.units.specs.Listing.{units, added_all, Listing, Taken, Enough}
 use Rattle.collecting.specs.Leaving.{leaving, members_but, bound_but}
-use Rattle.collecting.specs.declared.Except.TheVariants.{Sender}
 use Rattle.delivery.specs.Delivering.{Deliverable}
 use Rattle.units.proofs.Units.{has-none}
 use Rattle.units.proofs.Taking.{added_new, once-added_all, ordered-added_all}
@@ -70,7 +70,7 @@ module _ (bs ms : List ℕ) (f : Fields) (l : List ℕ) {to : Destination} where
   delivered-none e = rw e (record { count = refl; octets = refl })
 
   module _ {n : ℕ} {l' : List ℕ} where
-    pub delivered-binds : {s : ℕ} → to ≡ BindAddress → s ≡ sender f → Listing l l' n (ordered (bound_but (Sender s) f (table Members ms) (table Binds bs)))
+    pub delivered-binds : {s : ℕ} → to ≡ BindAddress → s ≡ sender f → Listing l l' n (ordered (bound_but (Some s) f (table Members ms) (table Binds bs)))
         → Listing l l' n (recipients (table Binds bs) (table Members ms) to f)
     unfolding recipients bound_but leaving without
     delivered-binds e q h = rw (e, ← q) h
@@ -80,7 +80,7 @@ module _ (bs ms : List ℕ) (f : Fields) (l : List ℕ) {to : Destination} where
     unfolding recipients
     delivered_unit e h = rw e h
 
-    pub delivered-group : {s : ℕ} {g : GroupAddress} → to ≡ Group g → s ≡ sender f → Listing l l' n (ordered (members_but (Sender s) g (table Members ms)))
+    pub delivered-group : {s : ℕ} {g : GroupAddress} → to ≡ Group g → s ≡ sender f → Listing l l' n (ordered (members_but (Some s) g (table Members ms)))
         → Listing l l' n (recipients (table Binds bs) (table Members ms) to f)
     unfolding recipients members_but leaving without
     delivered-group e q h = rw (e, ← q) h

@@ -1,4 +1,5 @@
 -- The room that outcome 17 asks for is enough for any tables: the recipients, each once, are no more than the binds and the member records.
+use Rattle.std.specs.Prelude.{Option}
 use Rattle.words.specs.Basics.{◌≡◌, refl, sym, ◌∙◌, Bool, true, false, cond, ◌&&◌, ◌||◌, false≢true, or-false, or-true, List, [], ◌∷◌, ◌++◌, map, flat_map, ℕ}
 use Rattle.words.specs.Basics.{◌+◌, ◌*◌, ◌/◌, ◌≤◌, arith, eqb, length, length-append, length-map}
 use Rattle.rules.specs.Types.{GroupAddress, Fields, Binds, Members}
@@ -12,7 +13,6 @@ use Rattle.rules.proofs.Lists.{and_parts, any-keep, any-map, any-flat_map}
 use Rattle.rules.proofs.Records.{length-records}
 use Rattle.units.specs.Listing.{units, added_all, Enough}
 use Rattle.collecting.specs.Leaving.{leaving, members_but, bound_but}
-use Rattle.collecting.specs.declared.Except.{Except}
 use Rattle.units.proofs.Units.{or_either, has-none, has-cons, has-append}
 use Rattle.units.proofs.Taking.{has-added_all, once-added_all, fewer}
 
@@ -58,7 +58,7 @@ pub length-member_units : (ms : List ℕ) → length (member_units ms) ≡ lengt
 unfolding member_units
 length-member_units ms = rw (length-map, length-records)
 
-pub members-within : (x : Except) (g : GroupAddress) (ms : List ℕ) → Within (members_but x g (table Members ms)) (member_units ms)
+pub members-within : (x : Option ℕ) (g : GroupAddress) (ms : List ℕ) → Within (members_but x g (table Members ms)) (member_units ms)
 unfolding members_but leaving has member_units
 members-within x g ms u h = members-all g (table Members ms) u (any-kept (eqb u) _ (members_of (table Members ms) g) h)
 
@@ -80,7 +80,7 @@ pub length-all_units : (bs ms : List ℕ) → length (all_units bs ms) ≡ lengt
 unfolding all_units
 length-all_units bs ms = rw (length-append, length-map, length-records, length-member_units)
 
-pub bound-within : (x : Except) (f : Fields) (bs ms : List ℕ) → Within (bound_but x f (table Members ms) (table Binds bs)) (all_units bs ms)
+pub bound-within : (x : Option ℕ) (f : Fields) (bs ms : List ℕ) → Within (bound_but x f (table Members ms) (table Binds bs)) (all_units bs ms)
 unfolding bound_but bound leaving used has all_units member_units
 bound-within x f bs ms u h =
     let M = table Members ms in

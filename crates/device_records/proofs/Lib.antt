@@ -1,3 +1,3 @@
 -- The laws that the proofs of this crate and of those above it cite.
-pub mod Filling
+pub mod Made
 pub mod Placed

@@ -1,23 +1,9 @@
--- Where the octets of a device's record stand: a unit's octet in a set that begins somewhere, and the units behind four octets.
-use Rattle.words.specs.Basics.{◌≡◌, ◌∙◌, List, ◌∷◌, append-nil, ℕ, ◌+◌, ◌/◌, ◌%◌, ◌<◌, ◌≤◌, arith, eqb, length, take, drop, replicate, set, get_or-drop}
+-- Where the octets of a device's record stand: the units behind four octets.
+use Rattle.words.specs.Basics.{◌≡◌, ◌∙◌, List, ◌∷◌, append-nil, ℕ, ◌/◌, ◌%◌, arith, length, replicate, set}
 use Rattle.words.specs.Basics.{sets, sets-eq}
-use Rattle.rules.specs.Octets.{octet, bit, octets}
-use Rattle.rules.specs.Types.{DeviceAddress, Devices}
-use Rattle.rules.specs.Layout.{size, units_length, in_set, device_units, device_record}
-use Rattle.rules.proofs.Records.{octet-at}
-
--- a unit of the set that begins at `from`
-pub unit_placed : (from u : ℕ) (s : List ℕ) {w b : ℕ} → w ≡ u / 8 → b ≡ bit (u % 8) (octet (from + w) s) → eqb b 1 ≡ in_set u (drop from s)
-unfolding in_set
-unit_placed from u s e h = rw (h, e, get_or-drop)
-
--- a unit of the record at `at`, by the octets of the table
-pub unit_in_record : (at u : ℕ) (t : List ℕ) → u ≤ 255 → in_set u (device_units (take (size Devices) (drop at t))) ≡ in_set u (drop (at + 4) t)
-unfolding in_set
-unit_in_record at u t l =
-    let e : at + (4 + u / 8) ≡ at + 4 + u / 8 = omega arith in
-    let i : 4 + u / 8 < 36 = omega arith in
-    rw (get_or-drop, octet-at (size Devices) at (4 + u / 8) t i, e, get_or-drop)
+use Rattle.rules.specs.Octets.{octets}
+use Rattle.rules.specs.Types.{DeviceAddress}
+use Rattle.rules.specs.Layout.{units_length, device_record}
 
 -- the units are written behind four octets of 0, and then the first three
 pub record-placed : (d : DeviceAddress) (a : ℕ) (us : List ℕ) {x : List ℕ} {hi lo : ℕ} → length us ≡ units_length → x ≡ sets (replicate 36 0) 4 us

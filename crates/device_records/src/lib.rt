@@ -19,21 +19,16 @@ pub fn in_set(given: &[u8], from: usize, unit: u8) -> bool
     requires { from + units_length ≤ length given.now }
     ensures { result ≡ in_set unit (drop from given.now) }
 {
-    let at = from + octets::wide(unit / 8);
+    let at = from + unit as usize / 8;
     octets::bit(given[at], unit % 8) == 1
 }
 
 // How many of the eight units of octet i are at most `top`.
 fn among(top: u8, i: usize) -> usize
     requires { i < units_length }
-    ensures { result ≡ among top i }
+    ensures { (result ≡ among top i) × (result ≤ 8) }
 {
-    let n = octets::wide(top) + 1;
-    let at = i * 8;
-    if n <= at {
-        return 0;
-    }
-    if n - at <= 8 { n - at } else { 8 }
+    (top as usize + 1).saturating_sub(i * 8).min(8)
 }
 
 // An octet with its n lowest bits set.
@@ -48,13 +43,7 @@ fn low_bits(n: usize) -> u8
 pub fn up_to(top: u8) -> [u8; 32]
     ensures { result ≡ up_to top }
 {
-    let mut units = [0u8; 32];
-    let mut i = 0;
-    while i < 32 {
-        units[i] = low_bits(among(top, i));
-        i += 1;
-    }
-    units
+    std::array::from_fn(|i| low_bits(among(top, i)))
 }
 
 // The record of a device.

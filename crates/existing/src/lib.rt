@@ -1,7 +1,7 @@
 // What exists (document 01, Tables). A device's address and a group's are two types, and a lookup takes only its own.
 #![tactic(auto)]
 
-ghost use Rattle.std.specs.Prelude.{◌≡◌, ◌+◌, ◌≤◌, length, take, drop};
+ghost use Rattle.std.specs.Prelude.{◌≡◌, ◌≤◌, length};
 ghost use Rattle.rules.specs.Types.{Devices, Groups};
 ghost use Rattle.rules.specs.Lists.{any};
 ghost use Rattle.rules.specs.Tables.{records, used, addressed};
@@ -29,34 +29,29 @@ pub fn is_admitted(devices: &[u8], device: DeviceAddress) -> bool
     has_address(devices, DEVICE, device.0)
 }
 
-// Is the record at `at` this device's, with this unit?
-fn unit_at(devices: &[u8], at: usize, device: DeviceAddress, unit: u8) -> bool
-    requires { at + size Devices ≤ length devices.now }
-    ensures { result ≡ passes (has_unit device unit) (take (size Devices) (drop at devices.now)) }
+// Is the record this device's, with this unit?
+fn unit_in(record: &[u8], device: DeviceAddress, unit: u8) -> bool
+    requires { length «record».now ≡ size Devices }
+    ensures { result ≡ passes (has_unit device unit) «record».now }
 {
-    let this = records::matches_at(devices, DEVICE, at, 0, &layouts::address_octets(device.0));
-    this & device_records::in_set(devices, at + UNITS, unit)
+    let this = records::is_match(record, 0, &layouts::address_octets(device.0));
+    this & device_records::in_set(record, UNITS, unit)
 }
 
 // Does a record of the table have this device and unit?
 fn has_unit(devices: &[u8], device: DeviceAddress, unit: u8) -> bool
     ensures { result ≡ any (has_unit device unit) (used (table Devices devices.now)) }
 {
-    let mut at = 0;
-    while DEVICE <= devices.len() - at {
-        if unit_at(devices, at, device, unit) {
-            return true;
-        }
-        at += DEVICE;
-    }
-    false
+    devices
+        .chunks_exact(DEVICE)
+        .any(|record| unit_in(record, device, unit))
 }
 
 // Does the unit exist? "D'0000 is the concentrator: never in the table, unit 0 only, rights 1."
 pub fn unit_exists(devices: &[u8], device: DeviceAddress, unit: u8) -> bool
     ensures { result ≡ unit_exists (table Devices devices.now) device unit }
 {
-    if device.0 == DeviceAddress::CONCENTRATOR.0 {
+    if device == DeviceAddress::CONCENTRATOR {
         return unit == 0;
     }
     has_unit(devices, device, unit)
@@ -66,21 +61,15 @@ pub fn unit_exists(devices: &[u8], device: DeviceAddress, unit: u8) -> bool
 pub fn device_exists(devices: &[u8], device: DeviceAddress) -> bool
     ensures { result ≡ device_exists (table Devices devices.now) device }
 {
-    if device.0 == DeviceAddress::CONCENTRATOR.0 {
-        return true;
-    }
-    is_admitted(devices, device)
+    device == DeviceAddress::CONCENTRATOR || is_admitted(devices, device)
 }
 
 // May the device give commands?
 pub fn has_rights(devices: &[u8], device: DeviceAddress) -> bool
     ensures { result ≡ has_rights (table Devices devices.now) device }
 {
-    if device.0 == DeviceAddress::CONCENTRATOR.0 {
-        return true;
-    }
-    let a = layouts::address_octets(device.0);
-    records::has(devices, DEVICE, 0, &[a[0], a[1], 1])
+    let [high, low] = layouts::address_octets(device.0);
+    device == DeviceAddress::CONCENTRATOR || records::has(devices, DEVICE, 0, &[high, low, 1])
 }
 
 // Is the group in the table?

@@ -3,6 +3,7 @@
 #![tactic(auto)]
 
 ghost use Rattle.std.specs.Prelude.{◌≡◌};
+ghost use Rattle.words.specs.Reasons.{fault_in};
 ghost use Rattle.rules.specs.Types.{Devices, Groups};
 ghost use Rattle.rules.specs.Frame.{table};
 ghost use Rattle.rules.specs.Faults.{bind_fault};
@@ -18,24 +19,24 @@ fn unit_fault(
     unit: u8,
     no_device: Reason,
     no_unit: Reason,
-) -> Reason
-    ensures { result ≡ unit_fault (table Devices devices.now) device unit no_device no_unit }
+) -> Result<(), Reason>
+    ensures { fault_in result ≡ unit_fault (table Devices devices.now) device unit no_device no_unit }
 {
     if existing::unit_exists(devices, device, unit) {
-        return Reason::NoFault;
+        return Ok(());
     }
     if existing::device_exists(devices, device) {
-        return no_unit;
+        return Err(no_unit);
     }
-    no_device
+    Err(no_device)
 }
 
 // 2 and 3: a source is any device, or one that exists, with any unit or one that it has.
-fn source_fault(bind: [u8; 8], devices: &[u8]) -> Reason
-    ensures { result ≡ source_fault (table Devices devices.now) bind }
+fn source_fault(bind: [u8; 8], devices: &[u8]) -> Result<(), Reason>
+    ensures { fault_in result ≡ source_fault (table Devices devices.now) bind }
 {
     if bind_records::from_any_device(bind) {
-        return Reason::NoFault;
+        return Ok(());
     }
     let source = bind_records::bind_source(bind);
     if !bind_records::from_any_unit(bind) {
@@ -49,51 +50,41 @@ fn source_fault(bind: [u8; 8], devices: &[u8]) -> Reason
         );
     }
     if !existing::device_exists(devices, source) {
-        return Reason::NoSourceDevice;
+        return Err(Reason::NoSourceDevice);
     }
-    Reason::NoFault
+    Ok(())
 }
 
 // 5 to 8: a destination is a group that exists, or a unit that exists and is not the source unit itself.
-fn destination_fault(bind: [u8; 8], devices: &[u8], groups: &[u8]) -> Reason
-    ensures { result ≡ destination_fault (table Devices devices.now) (table Groups groups.now) bind }
+fn destination_fault(bind: [u8; 8], devices: &[u8], groups: &[u8]) -> Result<(), Reason>
+    ensures { fault_in result ≡ destination_fault (table Devices devices.now) (table Groups groups.now) bind }
 {
     if bind_records::to_group(bind) {
         if !existing::group_exists(groups, bind_records::bound_group(bind)) {
-            return Reason::NoGroup;
+            return Err(Reason::NoGroup);
         }
-        return Reason::NoFault;
+        return Ok(());
     }
-    let device = bind_records::bound_device(bind);
-    let unit = bind_records::bind_unit(bind);
-    let fault = unit_fault(
+    unit_fault(
         devices,
-        device,
-        unit,
+        bind_records::bound_device(bind),
+        bind_records::bind_unit(bind),
         Reason::NoDestinationDevice,
         Reason::NoDestinationUnit,
-    );
-    if fault.number() != 0 {
-        return fault;
+    )?;
+    if bind_records::bind_to(bind) == bind_records::bind_from(bind) {
+        return Err(Reason::BoundToItself);
     }
-    let to = bind_records::bind_to(bind);
-    if to == bind_records::bind_from(bind) {
-        return Reason::BoundToItself;
-    }
-    Reason::NoFault
+    Ok(())
 }
 
 // 2 to 8: all that is asked of a bind but its length and its presence.
-pub fn bind_fault(bind: [u8; 8], devices: &[u8], groups: &[u8]) -> Reason
-    ensures { result ≡ bind_fault (table Devices devices.now) (table Groups groups.now) bind }
+pub fn bind_fault(bind: [u8; 8], devices: &[u8], groups: &[u8]) -> Result<(), Reason>
+    ensures { fault_in result ≡ bind_fault (table Devices devices.now) (table Groups groups.now) bind }
 {
-    let source = source_fault(bind, devices);
-    if source.number() != 0 {
-        return source;
-    }
-    let unit = bind_records::bind_unit(bind);
-    if unit == DeviceAddress::NO_UNIT {
-        return Reason::DestinationUnitFF;
+    source_fault(bind, devices)?;
+    if bind_records::bind_unit(bind) == DeviceAddress::NO_UNIT {
+        return Err(Reason::DestinationUnitFF);
     }
     destination_fault(bind, devices, groups)
 }
@@ -104,6 +95,5 @@ pub fn bind_fits(bind: [u8; 8], devices: &[u8], groups: &[u8]) -> bool
 {
     let address = bind_records::bind_source(bind);
     let top = octets::flag(address.0);
-    let fault = bind_fault(bind, devices, groups);
-    (top == 0) & (fault.number() == 0)
+    (top == 0) & bind_fault(bind, devices, groups).is_ok()
 }

@@ -16,7 +16,7 @@ use words::{DeviceAddress, Kind};
 pub fn address_fits(address: u16) -> bool
     ensures { result ≡ address_fits address }
 {
-    (DeviceAddress::LOWEST <= address) & (address <= DeviceAddress::HIGHEST)
+    (DeviceAddress::LOWEST..=DeviceAddress::HIGHEST).contains(&address)
 }
 
 // Address, rights 0 or 1; "Unit 0 is always set and unit 255 never", in the set that begins at `from`.
@@ -45,7 +45,7 @@ fn padded(rec: &[u8]) -> bool
     requires { 2 < length rec.now }
     ensures { result ≡ all (λ o. eqb o 0x00) (name_padding rec.now) }
 {
-    let end = layouts::NAME + octets::wide(rec[layouts::NAME_LENGTH]);
+    let end = layouts::NAME + rec[layouts::NAME_LENGTH] as usize;
     if rec.len() < end {
         return true;
     }
@@ -80,7 +80,7 @@ fn session_fits(rec: &[u8], devices: &[u8]) -> bool
     existing::device_exists(devices, DeviceAddress(octets::word_at(rec, 0)))
 }
 
-// A used record of a table, by the table's rule.
+// A used record of a table, by the table's rule: an arm for each, since each rule asks other things.
 pub fn fits(kind: Kind, rec: &[u8], devices: &[u8], groups: &[u8]) -> bool
     requires { length rec.now ≡ size kind }
     ensures { result ≡ fits kind (table Devices devices.now) (table Groups groups.now) rec.now }

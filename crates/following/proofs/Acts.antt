@@ -1,4 +1,5 @@
 -- What the acting parts leave: a command that is handled, a list of recipients.
+use Rattle.std.specs.Prelude.{Option, Ok}
 use borrow.Rule.Slice.PartMut.{mid_of, put_mid}
 use Rattle.words.specs.Basics.{◌≡◌, ap, false, List, [], ◌∷◌, flat_map, ℕ, ◌+◌, ◌-◌, ◌≤◌, arith, eqb, length, drop, length-drop, length-take-le, ne_eqb}
 use Rattle.words.specs.Names.{header_length, longest}
@@ -42,8 +43,8 @@ module _ (L : Lent) (k : Command) (f : Fields) (p old : List ℕ) {L' : Lent} {p
   performed_short = omega (arith, within-room payload_of (behind old) written_over s, written-length, behind-length old h)
 
   -- the payload behind, the header before it
-  pub serves : {v : Reason} → v ≡ reasoning L f.source k p
-      → explaining (Done (header_length + n)) v L' (over (header (answering f n)) (put_mid header_length (longest - header_length) old part)) []
+  pub serves : {v : Option Reason} → v ≡ reasoning L f.source k p
+      → explaining (Ok (Done (header_length + n))) v L' (over (header (answering f n)) (put_mid header_length (longest - header_length) old part)) []
       ≡ handled L k f p old []
   unfolding handled answered performing
   serves e =
@@ -65,12 +66,12 @@ forwards (u ∷ us) x e =
     let some : eqb (length (u ∷ us)) 0 ≡ false = ne_eqb (length (u ∷ us)) 0 (λ z. omega arith) in
     rw (e, x.count, some, x.octets)
 
-pub nobody : {n : ℕ} {l l' : List ℕ} (us : List ℕ) → Listing l l' n us → n ≡ 0 → answer Nobody nothing_lent [] l' ≡ forwarded us nothing_lent [] l
+pub nobody : {n : ℕ} {l l' : List ℕ} (us : List ℕ) → Listing l l' n us → n ≡ 0 → answer (Ok Nobody) nothing_lent [] l' ≡ forwarded us nothing_lent [] l
 unfolding forwarded over unit_octets flat_map
 nobody [] x z = rw x.octets
 nobody (u ∷ us) x z = absurd (omega (arith, x.count))
 
-pub somebody : {n : ℕ} {l l' : List ℕ} (us : List ℕ) → Listing l l' n us → (n ≡ 0 → ⊥) → answer (Forwarded n) nothing_lent [] l' ≡ forwarded us nothing_lent [] l
+pub somebody : {n : ℕ} {l l' : List ℕ} (us : List ℕ) → Listing l l' n us → (n ≡ 0 → ⊥) → answer (Ok (Forwarded n)) nothing_lent [] l' ≡ forwarded us nothing_lent [] l
 unfolding forwarded
 somebody [] x z = absurd (z x.count)
 somebody (u ∷ us) x z = rw (x.count, x.octets)

@@ -1,12 +1,12 @@
 -- The reason, in the contract's own words: a call of `gneissfold_message` that meets its contract tells a reason other than 0 if and only if the message is
 -- Add Bind, its outcome 0 and its code, octet 16 of the reply, 0x02.
+use Rattle.std.specs.Prelude.{Some}
 use contract.Lifetimes.{Lfts}
 use borrow.Fn.World
 use borrow.Fn.Kinds as K
 use denote.Triple.Clauses
 use Rattle.words.specs.Basics.{◌≡◌, sym, ap, ◌∙◌, true, false, List, ℕ, eqb}
 use Rattle.words.specs.Reasons.{faultless}
-use Rattle.words.specs.declared.Decoded.TheVariants.{Is}
 use Rattle.rules.specs.Types.{AddBind}
 use Rattle.rules.specs.Message.{fields}
 use Rattle.rules.specs.Payloads.{command}
@@ -27,11 +27,11 @@ module _ (κs : Lfts (gneissfold_message.signature).lifetimes) (a : World.ArgsD 
   abbrev msg : List ℕ
   msg = a.1.1.1.1.1.0.now
 
-  pub reason-given : command (fields msg) ≡ Is AddBind → refused t ≡ true → eqb t.reason 0 ≡ false
+  pub reason-given : command (fields msg) ≡ Some AddBind → refused t ≡ true → eqb t.reason 0 ≡ false
   unfolding refused refused_by faultless
   reason-given d g = ap (λ (x : MessageTold). eqb x.reason 0) p ∙ (explains _ msg _ _).given d (sym (ap refused p) ∙ g)
 
-  pub reason-only : eqb t.reason 0 ≡ false → (command (fields msg) ≡ Is AddBind) × (refused t ≡ true)
+  pub reason-only : eqb t.reason 0 ≡ false → (command (fields msg) ≡ Some AddBind) × (refused t ≡ true)
   unfolding refused refused_by faultless
   reason-only h =
       let e = (explains _ msg _ _).only (sym (ap (λ (x : MessageTold). eqb x.reason 0) p) ∙ h) in

@@ -4,11 +4,12 @@ use Rattle.std.specs.Prelude.{Bool, List, [], ◌∷◌, ℕ, eqb}
 use Rattle.words.specs.Names.{invalid_argument, header_length}
 use Rattle.words.specs.Outcomes.{number_of, value_of}
 use Rattle.words.specs.Reasons.{reason_number, reason_octet}
-use Rattle.rules.specs.Types.{Fields, Reading}
+use Rattle.rules.specs.Types.{Fields}
 use Rattle.rules.specs.Lists.{◌&◌}
 use Rattle.rules.specs.Octets.{octet}
 use Rattle.rules.specs.Frame.{Lent}
 use Rattle.rules.specs.Calls.{Answer}
+use Rattle.rules.specs.Message.{Reading}
 use Rattle.rules.specs.Copy.{CopyAnswer}
 use Rattle.rules.specs.Host.{HostAnswer}
 use Rattle.rules.specs.Carry.{CarryAnswer}

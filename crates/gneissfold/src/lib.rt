@@ -1,14 +1,14 @@
 // The calls for C and Rust (include/gneissfold.h, bindings/rust). Each hands on what is lent to it to a call of `hub`, and tells the
 // answer in numbers: the paper's outcome number is returned, a length or count, a reason and its octet go where the caller points.
-// No call requires anything: each answers on any octets and any lengths.
+// No call requires anything: each answers on any octets and any lengths. Arguments are C's: slices one by one, numbers, and places to write to.
 #![tactic(auto)]
 
-ghost use Rattle.std.specs.Prelude.{◌≡◌};
+ghost use Rattle.std.specs.Prelude.{◌≡◌, List, ℕ};
 ghost use Rattle.words.specs.Names.{device};
-ghost use Rattle.words.specs.Outcomes.{number_of, value_of};
+ghost use Rattle.words.specs.Outcomes.{number_of, without_length};
 ghost use Rattle.words.specs.Reasons.{reason_number, reason_octet};
-ghost use Rattle.rules.specs.Frame.{lent};
-ghost use Rattle.rules.specs.Calls.{message};
+ghost use Rattle.rules.specs.Frame.{Lent, lent};
+ghost use Rattle.rules.specs.Calls.{telling, message};
 ghost use Rattle.rules.specs.Copy.{copy};
 ghost use Rattle.rules.specs.Host.{admit, release};
 ghost use Rattle.rules.specs.Carry.{carried_over};
@@ -16,19 +16,52 @@ ghost use Rattle.rules.specs.Message.{reading};
 ghost use Rattle.gneissfold.specs.Numbers.{message_told, of_message, host_told, of_host, carry_told, of_carry, copy_told};
 ghost use Rattle.gneissfold.specs.Numbers.{of_copy, read_told, of_reading, twelve};
 
-use words::{DeviceAddress, Fields, Told};
+use hub::Tables;
+use words::{DeviceAddress, Fields, Reason, Refusal, Told};
+
+// Tells a reason and the octet concerned, or that there is none.
+fn tell_reason(told: Option<Reason>, reason: &mut u8, octet: &mut u8)
+    ensures { (reason.new ≡ reason_number told) × (octet.new ≡ reason_octet told) }
+{
+    match told {
+        Some(fault) => {
+            *reason = fault.number();
+            *octet = fault.octet();
+        }
+        None => {
+            *reason = 0;
+            *octet = 0;
+        }
+    }
+}
 
 // Tells what a message was answered: its count or length, its reason and the octet concerned go where the caller points, and its number is returned.
-pub fn tell(told: Told, count: &mut usize, reason: &mut u8, octet: &mut u8) -> u8
-    ensures { (result ≡ number_of told.outcome) × (count.new ≡ value_of told.outcome)
-        × (reason.new ≡ reason_number told.reason) × (octet.new ≡ reason_octet told.reason) }
+pub fn tell(told: Result<Told, Refusal>, count: &mut usize, reason: &mut u8, octet: &mut u8) -> u8
+    ensures { (L : Lent) (r l : List ℕ) → message_told result count.new reason.new octet.new L r l ≡ of_message (telling told L r l) }
 {
-    let outcome = told.outcome;
-    let fault = told.reason;
-    *count = outcome.value();
-    *reason = fault.number();
-    *octet = fault.octet();
-    outcome.number()
+    match told {
+        Ok(told) => {
+            let accepted = told.accepted;
+            *count = accepted.value();
+            tell_reason(told.reason, reason, octet);
+            accepted.number()
+        }
+        Err(refusal) => {
+            *count = 0;
+            tell_reason(None, reason, octet);
+            refusal.number()
+        }
+    }
+}
+
+// The number of an answer that tells no length.
+fn number_of_host(answer: Result<(), Refusal>) -> u8
+    ensures { result ≡ number_of (without_length answer) }
+{
+    match answer {
+        Ok(()) => 0,
+        Err(refusal) => refusal.number(),
+    }
 }
 
 // Handles a message. `count` gets the reply's length or the number of recipients, and 0 where the paper states none; `reason` and `octet` say what is wrong
@@ -52,7 +85,14 @@ pub fn gneissfold_message(
         ≡ of_message (message (lent devices.old binds.old groups.old members.old sessions.old)
         msg.now reply.old list.old) }
 {
-    let told = hub::message(devices, binds, groups, members, sessions, msg, reply, list);
+    let mut tables = Tables {
+        devices,
+        binds,
+        groups,
+        members,
+        sessions,
+    };
+    let told = hub::message(&mut tables, msg, reply, list);
     tell(told, count, reason, octet)
 }
 
@@ -71,7 +111,7 @@ pub fn gneissfold_admit(
         ≡ of_host (admit (lent devices.old binds.now groups.now members.now sessions.now)
         (device address) rights units.now) }
 {
-    let outcome = hub::admit(
+    number_of_host(hub::admit(
         devices,
         binds,
         groups,
@@ -80,8 +120,7 @@ pub fn gneissfold_admit(
         DeviceAddress(address),
         rights,
         units,
-    );
-    outcome.number()
+    ))
 }
 
 // Releases a device, with its members and the binds that name it, and its read session; all sessions where a bind named it.
@@ -98,16 +137,14 @@ pub fn gneissfold_release(
         (device address)) }
 {
     let gone = DeviceAddress(address);
-    let outcome = hub::release(devices, binds, groups, members, sessions, gone);
-    outcome.number()
+    number_of_host(hub::release(devices, binds, groups, members, sessions, gone))
 }
 
 // Carries an old device table, of records of 4 octets, over into a new one.
 pub fn gneissfold_carry_over(old: &[u8], new: &mut [u8]) -> u8
     ensures { carry_told result new.new ≡ of_carry (carried_over old.now new.old) }
 {
-    let outcome = hub::carry_over(old, new);
-    outcome.number()
+    number_of_host(hub::carry_over(old, new))
 }
 
 // Writes the copy of a message for one unit of a device into the room. `length` gets the copy's length, or 0.
@@ -115,16 +152,16 @@ pub fn gneissfold_copy(msg: &[u8], room: &mut [u8], to: u16, unit: u8, length: &
     ensures { copy_told result length.new room.new
         ≡ of_copy (copy msg.now room.old (device to) unit) }
 {
-    let outcome = hub::copy(msg, room, DeviceAddress(to), unit);
-    *length = outcome.value();
-    outcome.number()
-}
-
-// An octet where a 16-bit number is wanted.
-fn wide(x: u8) -> u16
-    ensures { result ≡ x }
-{
-    x as u16
+    match hub::copy(msg, room, DeviceAddress(to), unit) {
+        Ok(n) => {
+            *length = n;
+            0
+        }
+        Err(refusal) => {
+            *length = 0;
+            refusal.number()
+        }
+    }
 }
 
 // The twelve fields in the message's order, the last the octet where the payload begins.
@@ -133,15 +170,15 @@ fn numbers(f: Fields) -> [u16; 12]
 {
     [
         f.source.0,
-        wide(f.source_unit),
+        u16::from(f.source_unit),
         f.address_type,
         f.destination,
-        wide(f.destination_unit),
-        wide(f.app_ref),
-        wide(f.message_type),
+        u16::from(f.destination_unit),
+        u16::from(f.app_ref),
+        u16::from(f.message_type),
         f.interface_type,
         f.uid,
-        wide(f.member),
+        u16::from(f.member),
         f.data_length,
         f.payload,
     ]
@@ -151,8 +188,14 @@ fn numbers(f: Fields) -> [u16; 12]
 pub fn gneissfold_read(msg: &[u8], fields: &mut [u16; 12]) -> u8
     ensures { read_told result fields.new ≡ of_reading (reading msg.now) }
 {
-    let reading = hub::read(msg);
-    *fields = numbers(reading.fields);
-    let outcome = reading.outcome;
-    outcome.number()
+    match hub::read(msg) {
+        Ok(said) => {
+            *fields = numbers(said);
+            0
+        }
+        Err(refusal) => {
+            *fields = numbers(Fields::NONE);
+            refusal.number()
+        }
+    }
 }

@@ -1,5 +1,5 @@
 // The static library: what C and Rust link (include/gneissfold.h, bindings/rust). Each export hands on to the call of its name in `gneissfold` and promises
-// what that promises.
+// what that promises: a crate is a library or a static library, so the calls stand here too.
 #![tactic(auto)]
 
 ghost use Rattle.std.specs.Prelude.{◌≡◌};

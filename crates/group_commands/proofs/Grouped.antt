@@ -1,5 +1,5 @@
 -- Laws of Delete Group, by what was found.
-use Rattle.words.specs.Basics.{◌≡◌, Bool, true, false, List, ℕ, ◌+◌, ◌*◌}
+use Rattle.words.specs.Basics.{◌≡◌, Bool, true, false, List, ℕ}
 use Rattle.words.specs.Names.{flag_set, ok, invalid_argument}
 use Rattle.words.specs.declared.BindPart.TheVariants.{Destination}
 use Rattle.rules.specs.Types.{GroupAddress, Binds, Groups, Members}
@@ -18,15 +18,15 @@ pub address_freed : (k a : ℕ) (t : List ℕ) {w t' : List ℕ} → w ≡ octet
 unfolding addressed
 address_freed k a t e h = rw e at h
 
-pub binds_freed : (g : GroupAddress) (t : List ℕ) {f : ℕ} {w t' : List ℕ} → f ≡ flag_set * 32768 + g.0 → w ≡ octets f
+pub binds_freed : (g : GroupAddress) (t : List ℕ) {w t' : List ℕ} → w ≡ octets (joined flag_set g.0)
     → t' ≡ written (size Binds) (wipe (matches (part_start Destination) w)) t → t' ≡ written (size Binds) (wipe (to_this_group g)) t
-unfolding joined part_is
-binds_freed g t e d h = rw (d, e) at h
+unfolding part_is
+binds_freed g t e h = rw e at h
 
-pub bound_found : (g : GroupAddress) (t : List Rec) {f : ℕ} {w : List ℕ} {b : Bool} → f ≡ flag_set * 32768 + g.0 → w ≡ octets f
+pub bound_found : (g : GroupAddress) (t : List Rec) {w : List ℕ} {b : Bool} → w ≡ octets (joined flag_set g.0)
     → b ≡ any (matches (part_start Destination) w) (used t) → b ≡ any (to_this_group g) (used t)
-unfolding joined part_is
-bound_found g t e d h = rw (d, e) at h
+unfolding part_is
+bound_found g t e h = rw e at h
 
 -- .. by what was found
 

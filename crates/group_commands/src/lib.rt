@@ -2,9 +2,10 @@
 #![tactic(auto)]
 
 ghost use Rattle.std.specs.Prelude.{◌≡◌, ◌%◌, ◌<◌, length};
-ghost use Rattle.words.specs.Names.{invalid_argument};
+ghost use Rattle.words.specs.Names.{flag_set, invalid_argument};
 ghost use Rattle.rules.specs.Types.{Devices, Binds, Groups, Members};
 ghost use Rattle.rules.specs.Lists.{ask, any};
+ghost use Rattle.rules.specs.Octets.{octets, joined};
 ghost use Rattle.rules.specs.Tables.{used, matches, addressed, store, wipe, written};
 ghost use Rattle.rules.specs.Layout.{address_length, size, to_this_group, in_group};
 ghost use Rattle.rules.specs.Frame.{table};
@@ -18,13 +19,21 @@ use bind_records::DESTINATION;
 use layouts::{BIND, GROUP, MEMBER};
 use words::{Code, Fields, GroupAddress};
 
+// Where a bind names the group: the flag and the group's address.
+#[tactic(auto, unfolding(rules::specs::Octets::joined))]
+fn flagged_octets(group: GroupAddress) -> [u8; 2]
+    requires { group.0 < 32768 }
+    ensures { result ≡ octets (joined flag_set group.0) }
+{
+    layouts::address_octets(octets::flagged(Fields::SET, group.0))
+}
+
 // Is there a bind to the group that the payload names?
 pub fn is_bound(binds: &[u8], payload: &[u8]) -> bool
     requires { length payload.now ≡ address_length }
     ensures { result ≡ any (to_this_group (group_named payload.now)) (used (table Binds binds.now)) }
 {
-    let group = payloads::group_named(payload);
-    let flagged = layouts::address_octets(octets::flagged(Fields::SET, group.0));
+    let flagged = flagged_octets(payloads::group_named(payload));
     records::has(binds, BIND, DESTINATION, &flagged)
 }
 
@@ -36,7 +45,7 @@ fn free_group(binds: &mut [u8], groups: &mut [u8], members: &mut [u8], group: Gr
         × (groups.new ≡ written (size Groups) (wipe (addressed group.0)) groups.old)
         × (members.new ≡ written (size Members) (wipe (in_group group)) members.old) }
 {
-    let flagged = layouts::address_octets(octets::flagged(Fields::SET, group.0));
+    let flagged = flagged_octets(group);
     let address = layouts::address_octets(group.0);
     records::free_matching(binds, BIND, DESTINATION, &flagged);
     records::free_matching(groups, GROUP, 0, &address);

@@ -1,4 +1,5 @@
 -- Get Group Info's reply, piece by piece: what stands before the members, and the members behind it.
+use Rattle.std.specs.Prelude.{None}
 use borrow.Rule.Slice.PartMut.{put_mid}
 use Rattle.words.specs.Basics.{◌≡◌, refl, sym, List, [], ◌∷◌, ◌++◌, ℕ, ◌+◌, ◌-◌, ◌*◌, ◌≤◌, arith, length, take, drop, sets}
 use Rattle.words.specs.Names.{ok, header_length, longest}
@@ -15,7 +16,6 @@ use Rattle.rules.proofs.Replied.{length-info_head, length-info}
 use Rattle.octets.proofs.Runs.{sets_behind, sets_over}
 use Rattle.messages.proofs.Replies.{behind}
 use Rattle.collecting.specs.Leaving.{members_but}
-use Rattle.collecting.specs.declared.Except.TheVariants.{Nobody}
 use Rattle.group_info.proofs.Informed.{all-members}
 
 -- 0x00, name length, name, number of members
@@ -40,14 +40,14 @@ info-length : (r : Rec) (us : List ℕ) → length r ≡ size Groups → name_le
 info-length r us h l = omega (arith, length-info r us, name_length_lem r h l)
 
 pub info-counted : (r : Rec) (g : GroupAddress) (t : List ℕ) {n : ℕ} → length r ≡ size Groups → name_length r ≤ longest_name
-    → n ≡ length (ordered (members_but Nobody g (table Members t)))
+    → n ≡ length (ordered (members_but None g (table Members t)))
     → name_length r + 2 + 2 + 3 * n ≡ length (ok.0 ∷ info r (ordered (members_of (table Members t) g)))
 info-counted r g t {n} h l c = rw (c, all-members g (table Members t)) (sym (info-length r (ordered (members_of (table Members t) g)) h l))
 
 -- the members behind, the rest before them
 pub info-written : (r : Rec) (g : GroupAddress) (t old part : List ℕ) {n : ℕ} → length r ≡ size Groups → name_length r ≤ longest_name
-    → name_length r + 2 + 2 ≤ length old → n ≡ length (ordered (members_but Nobody g (table Members t)))
-    → part ≡ over (unit_octets (ordered (members_but Nobody g (table Members t)))) (drop (name_length r + 2 + 2) old)
+    → name_length r + 2 + 2 ≤ length old → n ≡ length (ordered (members_but None g (table Members t)))
+    → part ≡ over (unit_octets (ordered (members_but None g (table Members t)))) (drop (name_length r + 2 + 2) old)
     → over (ok.0 ∷ info_head r n) (put_mid (name_length r + 2 + 2) (length old - (name_length r + 2 + 2)) old part)
     ≡ over (ok.0 ∷ info r (ordered (members_of (table Members t) g))) old
 unfolding info

@@ -1,4 +1,5 @@
 -- The group that a search found, and what is answered of it.
+use Rattle.std.specs.Prelude.{Option, None, Some}
 use Rattle.words.specs.Basics.{◌≡◌, sym, ap, ◌∙◌, true, false, List, [], ◌∷◌, ℕ, ◌+◌, ◌≤◌, length, take, drop}
 use Rattle.words.specs.Names.{ok, invalid_argument}
 use Rattle.rules.specs.Types.{GroupAddress, Groups}
@@ -15,8 +16,6 @@ use Rattle.rules.specs.Commands.{naming, info, group_info, on_ok}
 use Rattle.rules.proofs.Lists.{first_passes}
 use Rattle.rules.proofs.Counts.{name-fits}
 use Rattle.records.specs.Search.{found_at}
-use Rattle.records.specs.declared.Found.{Found}
-use Rattle.records.specs.declared.Found.TheVariants.{At, Nothing}
 use Rattle.records.proofs.Search.{is_found, found_any, found_first}
 use Rattle.group_info.specs.Informing.{informing}
 
@@ -27,17 +26,17 @@ pub record GroupAt (g : GroupAddress) (t : List ℕ) (at : ℕ) : Type 0 where
   pub is : first_of [] (addressed g.0) (used (table Groups t)) ≡ take (size Groups) (drop at t)
 
 -- what the search for the octets of its address told
-module _ (g : GroupAddress) (t : List ℕ) {w : List ℕ} {r : Found} (e : w ≡ octets g.0) (h : r ≡ found_at 0 (size Groups) (matches 0 w) (table Groups t)) where
+module _ (g : GroupAddress) (t : List ℕ) {w : List ℕ} {r : Option ℕ} (e : w ≡ octets g.0) (h : r ≡ found_at 0 (size Groups) (matches 0 w) (table Groups t)) where
   searched : found_at 0 (size Groups) (matches 0 (octets g.0)) (table Groups t) ≡ r
   searched = sym (rw e at h)
 
-  pub group_at : {at : ℕ} → r ≡ At at → GroupAt g t at
+  pub group_at : {at : ℕ} → r ≡ Some at → GroupAt g t at
   unfolding group_exists addressed
   group_at k =
       let f = found_first (size Groups) (matches 0 (octets g.0)) t (searched ∙ k) in
       record { within = f.0; exists = found_any 0 (size Groups) (matches 0 (octets g.0)) (table Groups t) ∙ ap is_found (searched ∙ k); is = f.1 }
 
-  pub group-absent : r ≡ Nothing → group_exists (table Groups t) g ≡ false
+  pub group-absent : r ≡ None → group_exists (table Groups t) g ≡ false
   unfolding group_exists addressed
   group-absent k = found_any 0 (size Groups) (matches 0 (octets g.0)) (table Groups t) ∙ ap is_found (searched ∙ k)
 

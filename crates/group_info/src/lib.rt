@@ -16,9 +16,7 @@ ghost use Rattle.rules.specs.Recipients.{members_of};
 ghost use Rattle.rules.specs.Commands.{info_head, info};
 ghost use Rattle.group_info.specs.Informing.{informing};
 
-use collecting::Except;
 use layouts::{ADDRESS, GROUP, NAME, NAME_LENGTH};
-use records::Found;
 use words::{Code, GroupAddress};
 
 // Where the name stands in the reply: behind 0x00 and its length.
@@ -47,7 +45,7 @@ fn write_info(record: &[u8], members: &[u8], group: GroupAddress, out: &mut [u8]
         ≡ over (ok.0 ∷ info «record».now (ordered (members_of (table Members members.now) group))) out.old) }
 {
     let behind = record[NAME_LENGTH] as usize + REPLY_NAME + ADDRESS;
-    let count = delivery::members_in_order(&mut out[behind..], members, group, Except::Nobody);
+    let count = delivery::members_in_order(&mut out[behind..], members, group, None);
     write_head(record, count, out);
     behind + 3 * count
 }
@@ -62,9 +60,8 @@ pub fn get_group_info(groups: &[u8], members: &[u8], payload: &[u8], out: &mut [
         out.old) }
 {
     let group = payloads::group_named(payload);
-    let found = records::find(groups, GROUP, 0, &layouts::address_octets(group.0));
-    match found {
-        Found::At(at) => write_info(records::record_at(groups, GROUP, at), members, group, out),
-        Found::Nothing => changing::write_code(out, Code::invalid_argument()),
-    }
+    let Some(at) = records::find(groups, GROUP, 0, &layouts::address_octets(group.0)) else {
+        return changing::write_code(out, Code::invalid_argument());
+    };
+    write_info(records::record_at(groups, GROUP, at), members, group, out)
 }

@@ -1,10 +1,10 @@
 -- Laws of the host's calls: where a check fails, nothing changes; where none does, the octets written are the call's change.
+use Rattle.std.specs.Prelude.{Ok, Err}
 use Rattle.words.specs.Basics.{◌≡◌, refl, sym, ap, ◌∙◌, Bool, true, false, cond, not, ◌||◌, List, ℕ, ◌%◌, ◌<◌, arith, length, not-true}
-use Rattle.words.specs.Basics.{eq-eqb, not-false, ne_eqb}
-use Rattle.words.specs.Outcomes.{number_of}
+use Rattle.words.specs.Basics.{not-false}
 use Rattle.words.specs.declared.BindPart.TheVariants.{Source, Destination}
-use Rattle.rules.specs.Types.{DeviceAddress, Kind, Devices, Binds, Members, Sessions, Outcome, Done, Unsound, OutOfRange, AlreadyAdmitted, NoFreeRecord}
-use Rattle.rules.specs.Types.{NotAdmitted}
+use Rattle.rules.specs.Types.{DeviceAddress, Kind, Devices, Binds, Members, Sessions, Done, Unsound, OutOfRange, AlreadyAdmitted, NoFreeRecord}
+use Rattle.rules.specs.Types.{Refusal, NotAdmitted}
 use Rattle.rules.specs.Lists.{ask, any}
 use Rattle.rules.specs.Octets.{octets}
 use Rattle.rules.specs.Tables.{Rec, records, used, some_free, matches, addressed, clear, store, wipe, written}
@@ -18,6 +18,7 @@ use Rattle.rules.proofs.Changes.{any-or}
 use Rattle.rules.proofs.Frames.{replaced}
 use Rattle.rules.proofs.Records.{each-records, each-clear, records-bytes, clear_twice}
 use Rattle.rules.proofs.Kept.{whole-at, whole_length}
+use Rattle.soundness.proofs.Refused.{refusal-number}
 
 -- a check that the code made, and how it came out
 module _ {b w : Bool} (e : b ≡ w) where
@@ -35,38 +36,38 @@ whole-table L e n k = whole_length k (lent_of k L) (whole-at L (passed e n) k)
 
 -- each check of the order, those before it passed
 module _ (ds : List Rec) (d : DeviceAddress) (rights : ℕ) (us : List ℕ) where
-  pub out_of_range : device_in_range d rights us ≡ false → OutOfRange ≡ admission ds d rights us
+  pub out_of_range : device_in_range d rights us ≡ false → (Err OutOfRange) ≡ admission ds d rights us
   unfolding admission ask
   out_of_range f = rw f
 
   module _ (f : device_in_range d rights us ≡ true) where
-    pub already_there : admitted ds d ≡ true → AlreadyAdmitted ≡ admission ds d rights us
+    pub already_there : admitted ds d ≡ true → (Err AlreadyAdmitted) ≡ admission ds d rights us
     unfolding admission ask
     already_there a = rw (f, a)
 
-    pub no_room : admitted ds d ≡ false → some_free ds ≡ false → NoFreeRecord ≡ admission ds d rights us
+    pub no_room : admitted ds d ≡ false → some_free ds ≡ false → (Err NoFreeRecord) ≡ admission ds d rights us
     unfolding admission ask
     no_room a r = rw (f, a, r)
 
-    pub is_new : admitted ds d ≡ false → some_free ds ≡ true → Done 0 ≡ admission ds d rights us
+    pub is_new : admitted ds d ≡ false → some_free ds ≡ true → Ok (Done 0) ≡ admission ds d rights us
     unfolding admission ask
     is_new a r = rw (f, a, r)
 
 module _ (L : Lent) {b : Bool} (a : b ≡ sound L) (d : DeviceAddress) (rights : ℕ) (us : List ℕ) where
-  pub admit-unsound : not b ≡ true → host_answer Unsound L ≡ admit L d rights us
+  pub admit-unsound : not b ≡ true → host_answer (Err Unsound) L ≡ admit L d rights us
   unfolding admit settled ask
   admit-unsound s = rw (failed a s)
 
-  -- on sound tables, with the number n of the outcome o
-  module _ {o : Outcome} {n : ℕ} (s : not b ≡ false) (e : o ≡ admission (tables L Devices) d rights us) (k : n ≡ number_of o) where
-    pub admit-refused : (n ≡ 0 → ⊥) → host_answer o L ≡ admit L d rights us
+  -- on sound tables
+  module _ (s : not b ≡ false) where
+    pub admit-refused : {why : Refusal} → Err why ≡ admission (tables L Devices) d rights us → host_answer (Err why) L ≡ admit L d rights us
     unfolding admit settled ask
-    admit-refused z = rw (passed a s, sym e, ne_eqb (number_of o) 0 (λ h. z (k ∙ h)))
+    admit-refused {why} e = rw (passed a s, sym e, refusal-number why)
 
-    pub admit-done : {r : Rec} {ds : List ℕ} → n ≡ 0 → r ≡ device_record d rights us → ds ≡ written (size Devices) (store r) L.devices
-        → host_answer o (replaced Devices ds L) ≡ admit L d rights us
+    pub admit-done : {r : Rec} {ds : List ℕ} → Ok (Done 0) ≡ admission (tables L Devices) d rights us → r ≡ device_record d rights us
+        → ds ≡ written (size Devices) (store r) L.devices → host_answer (Ok (Done 0)) (replaced Devices ds L) ≡ admit L d rights us
     unfolding admit settled ask changed admitting also nothing written replaced
-    admit-done z f h = rw (passed a s, sym e, eq-eqb (number_of o) 0 (sym k ∙ z), h, f)
+    admit-done e f h = rw (passed a s, sym e, h, f)
 
 -- Release
 
@@ -100,7 +101,7 @@ module _ (d : DeviceAddress) where
 module _ (L : Lent) (d : DeviceAddress) where
   -- behind 16
 
-  pub unknown : admitted (tables L Devices) d ≡ false → host_answer NotAdmitted L ≡ settled (releasing (tables L) d) L (dismissal (tables L Devices) d)
+  pub unknown : admitted (tables L Devices) d ≡ false → host_answer (Err NotAdmitted) L ≡ settled (releasing (tables L) d) L (dismissal (tables L Devices) d)
   unfolding settled dismissal ask
   unknown a = rw a
 
@@ -111,10 +112,10 @@ module _ (L : Lent) (d : DeviceAddress) where
       × (ms ≡ written (size Members) (taking d Members) L.members)
       → named ≡ any (names_device d) (used (tables L Binds))
       → ss ≡ cond named (written (size Sessions) (wipe (λ r. true)) L.sessions) (written (size Sessions) (wipe (addressed d.0)) L.sessions)
-      → host_answer (Done 0) (replaced Devices ds (replaced Binds bs (replaced Members ms (replaced Sessions ss L))))
+      → host_answer (Ok (Done 0)) (replaced Devices ds (replaced Binds bs (replaced Members ms (replaced Sessions ss L))))
       ≡ settled (releasing (tables L) d) L (dismissal (tables L Devices) d)
   unfolding settled dismissal ask changed releasing closing alters taking also nothing written replaced
-  dismissed {ds} {bs} {ms} {ss} {named} a w n h = rw (a, ← n, w.0, w.1, w.2, h) (ap (host_answer (Done 0)) (whole named))
+  dismissed {ds} {bs} {ms} {ss} {named} a w n h = rw (a, ← n, w.0, w.1, w.2, h) (ap (host_answer (Ok (Done 0))) (whole named))
     where
       frees : (k : Kind) → List ℕ
       frees k = written (size k) (taking d k) (lent_of k L)
@@ -128,7 +129,7 @@ module _ (L : Lent) (d : DeviceAddress) where
   -- 16, and then that
 
   module _ {b : Bool} (e : b ≡ sound L) where
-    pub release-unsound : not b ≡ true → host_answer Unsound L ≡ release L d
+    pub release-unsound : not b ≡ true → host_answer (Err Unsound) L ≡ release L d
     unfolding release settled ask
     release-unsound s = rw (failed e s)
 
@@ -139,7 +140,7 @@ module _ (L : Lent) (d : DeviceAddress) where
 -- .. all of it in one: 23, or the device with all that names it
 
 module _ (L : Lent) {b : Bool} (e : b ≡ sound L) (d : DeviceAddress) where
-  pub release_unknown : not b ≡ false → admitted (tables L Devices) d ≡ false → host_answer NotAdmitted L ≡ release L d
+  pub release_unknown : not b ≡ false → admitted (tables L Devices) d ≡ false → host_answer (Err NotAdmitted) L ≡ release L d
   release_unknown s a = unknown L d a ∙ release-sound L d e s
 
   pub release-done : {ds bs ms ss : List ℕ} {named : Bool} → not b ≡ false → admitted (tables L Devices) d ≡ true
@@ -148,5 +149,5 @@ module _ (L : Lent) {b : Bool} (e : b ≡ sound L) (d : DeviceAddress) where
       × (ms ≡ written (size Members) (taking d Members) L.members)
       → named ≡ any (names_device d) (used (tables L Binds))
       → ss ≡ cond named (written (size Sessions) (wipe (λ r. true)) L.sessions) (written (size Sessions) (wipe (addressed d.0)) L.sessions)
-      → host_answer (Done 0) (replaced Devices ds (replaced Binds bs (replaced Members ms (replaced Sessions ss L)))) ≡ release L d
+      → host_answer (Ok (Done 0)) (replaced Devices ds (replaced Binds bs (replaced Members ms (replaced Sessions ss L)))) ≡ release L d
   release-done s a w n h = dismissed L d a w n h ∙ release-sound L d e s

@@ -2,6 +2,7 @@
 #![tactic(auto)]
 
 ghost use Rattle.std.specs.Prelude.{◌≡◌, List, ℕ, ◌%◌, length};
+ghost use Rattle.words.specs.Outcomes.{without_length};
 ghost use Rattle.rules.specs.Types.{Devices, Binds, Members, Sessions};
 ghost use Rattle.rules.specs.Lists.{any};
 ghost use Rattle.rules.specs.Tables.{used, wipe, written};
@@ -10,28 +11,35 @@ ghost use Rattle.rules.specs.Frame.{lent, table, tables};
 ghost use Rattle.rules.specs.Host.{host_answer, settled, admission, admit, names_device, taking, releasing, dismissal, release};
 
 use layouts::{BIND, DEVICE, MEMBER, MEMBER_DEVICE};
-use words::{BindPart, DeviceAddress, Outcome};
+use lent::View;
+use words::{BindPart, DeviceAddress, Refusal};
 
 // "Admit: 16, 20, 21, 22, else 0.", behind 16. It looks, and writes nothing.
-fn admission(devices: &[u8], address: DeviceAddress, rights: u8, units: &[u8; 32]) -> Outcome
-    ensures { result ≡ admission (table Devices devices.now) address rights units.now }
+fn admission(
+    devices: &[u8],
+    address: DeviceAddress,
+    rights: u8,
+    units: &[u8; 32],
+) -> Result<(), Refusal>
+    ensures { without_length result ≡ admission (table Devices devices.now) address rights units.now }
 {
     let fits = fitting::device_in_range(address, rights, units, 0);
     let there = existing::is_admitted(devices, address);
     let room = records::has_room(devices, DEVICE);
     if !fits {
-        return Outcome::OutOfRange;
+        return Err(Refusal::OutOfRange);
     }
     if there {
-        return Outcome::AlreadyAdmitted;
+        return Err(Refusal::AlreadyAdmitted);
     }
     if !room {
-        return Outcome::NoFreeRecord;
+        return Err(Refusal::NoFreeRecord);
     }
-    Outcome::Done(0)
+    Ok(())
 }
 
-// Admits a device with its rights and its set of units: its record goes to the first free place.
+// Admits a device with its rights and its set of units: its record goes to the first free place. Here and in a release the tables come one by one, since C
+// lends those that stay as they are to be read only.
 pub fn admit(
     devices: &mut [u8],
     binds: &[u8],
@@ -41,20 +49,25 @@ pub fn admit(
     address: DeviceAddress,
     rights: u8,
     units: &[u8; 32],
-) -> Outcome
-    ensures { host_answer result (lent devices.new binds.now groups.now members.now sessions.now)
+) -> Result<(), Refusal>
+    ensures { host_answer (without_length result) (lent devices.new binds.now groups.now members.now sessions.now)
         ≡ admit (lent devices.old binds.now groups.now members.now sessions.now) address rights
         units.now }
 {
-    if !soundness::sound(devices, binds, groups, members, sessions) {
-        return Outcome::Unsound;
+    let given = View {
+        devices,
+        binds,
+        groups,
+        members,
+        sessions,
+    };
+    if !soundness::sound(given) {
+        return Err(Refusal::Unsound);
     }
-    let outcome = admission(devices, address, rights, units);
-    if outcome.number() == 0 {
-        let record = device_records::device_record(address, rights, units);
-        records::store(devices, DEVICE, &record);
-    }
-    outcome
+    admission(devices, address, rights, units)?;
+    let record = device_records::device_record(address, rights, units);
+    records::store(devices, DEVICE, &record);
+    Ok(())
 }
 
 // Does a bind name the device "as source or individual destination"? The flag of octet 6 is 0 in a device's address.
@@ -99,22 +112,22 @@ pub fn dismiss(
     members: &mut [u8],
     sessions: &mut [u8],
     address: DeviceAddress,
-) -> Outcome
+) -> Result<(), Refusal>
     requires { (length devices.old % size Devices ≡ 0) × (length binds.old % size Binds ≡ 0) × (length members.old % size Members ≡ 0)
         × (length sessions.old % size Sessions ≡ 0) }
     ensures { (gs : List ℕ)
-        → host_answer result (lent devices.new binds.new gs members.new sessions.new)
+        → host_answer (without_length result) (lent devices.new binds.new gs members.new sessions.new)
         ≡ settled (releasing (tables (lent devices.old binds.old gs members.old sessions.old)) address)
         (lent devices.old binds.old gs members.old sessions.old)
         (dismissal (table Devices devices.old) address) }
 {
     if !existing::is_admitted(devices, address) {
-        return Outcome::NotAdmitted;
+        return Err(Refusal::NotAdmitted);
     }
     let named = is_named(binds, address);
     free_device(devices, binds, members, address);
     sessions::release(sessions, address, named);
-    Outcome::Done(0)
+    Ok(())
 }
 
 // Releases a device. "Release: 16, 23, else 0."
@@ -125,12 +138,19 @@ pub fn release(
     members: &mut [u8],
     sessions: &mut [u8],
     address: DeviceAddress,
-) -> Outcome
-    ensures { host_answer result (lent devices.new binds.new groups.now members.new sessions.new)
+) -> Result<(), Refusal>
+    ensures { host_answer (without_length result) (lent devices.new binds.new groups.now members.new sessions.new)
         ≡ release (lent devices.old binds.old groups.now members.old sessions.old) address }
 {
-    if !soundness::sound(devices, binds, groups, members, sessions) {
-        return Outcome::Unsound;
+    let given = View {
+        devices,
+        binds,
+        groups,
+        members,
+        sessions,
+    };
+    if !soundness::sound(given) {
+        return Err(Refusal::Unsound);
     }
     dismiss(devices, binds, members, sessions, address)
 }

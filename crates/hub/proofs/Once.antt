@@ -4,8 +4,9 @@ use borrow.Fn.World
 use borrow.Fn.Kinds as K
 use denote.Triple.Clauses
 use Rattle.words.specs.Basics.{◌≡◌, sym, ◌∙◌}
-use Rattle.rules.specs.Frame.{lent}
-use Rattle.rules.specs.Calls.{Answer, explaining}
+use Rattle.rules.specs.Calls.{Answer, telling}
+use Rattle.rules.proofs.ReadAs.{telling-once}
+use Rattle.lent.specs.Held.{held}
 use Rattle.hub.specs.contracts.message
 use Rattle.hub.proofs.message.Kinds as message-kinds
 use Rattle.hub.proofs.message.Reads as message-reads
@@ -14,10 +15,11 @@ use Rattle.hub.proofs.message.Reads as message-reads
 abbrev pub message-answer : (κs : Lfts (message.signature).lifetimes) (r : World.ResD message.signature κs)
     (s : Clauses.AtExit (K.ended_of _ message-kinds.ps message-kinds.r) κs) → Answer
 message-answer κs r s =
-    explaining r.outcome r.reason (lent s.0.now s.1.0.now s.1.1.0.now s.1.1.1.0.now s.1.1.1.1.0.now)
-    s.1.1.1.1.1.1.0.now s.1.1.1.1.1.1.1.0.now
+    telling r (held s.0.now) s.1.1.0.now s.1.1.1.0.now
 
 pub message-once : (κs : Lfts (message.signature).lifetimes) (a : World.ArgsD message.signature κs) (r r' : World.ResD message.signature κs)
     (s s' : Clauses.AtExit (K.ended_of _ message-kinds.ps message-kinds.r) κs)
-    → message-reads.Post κs a r s → message-reads.Post κs a r' s' → message-answer κs r s ≡ message-answer κs r' s'
-message-once κs a r r' s s' p q = p ∙ sym q
+    → message-reads.Post κs a r s → message-reads.Post κs a r' s' → (r ≡ r') × (message-answer κs r s ≡ message-answer κs r' s')
+message-once κs a r r' s s' p q =
+    let e = p.1 ∙ sym q.1 in
+    (telling-once r r' _ _ _ _ _ _ e, e)

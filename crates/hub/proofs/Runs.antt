@@ -10,6 +10,7 @@ use Rattle.rules.specs.Frame.{Lent, lent}
 use Rattle.rules.specs.History.{Call, sends, admits, releases, Said, said_by, said_by_host, after, Event, history, octets_only, free_tables}
 use Rattle.rules.specs.Seen.{Seen, calls, SeenHolds, SeenReads}
 use Rattle.rules.proofs.Seen as seen
+use Rattle.lent.specs.Held.{held}
 use Rattle.hosting.proofs.Once.{admit-answer, release-answer}
 use Rattle.hub.proofs.Once.{message-answer}
 use Rattle.hub.specs.contracts.message
@@ -26,10 +27,10 @@ use Rattle.hub.proofs.release.Reads as release-reads
 
 module _ (κs : Lfts (message.signature).lifetimes) (a : World.ArgsD message.signature κs) where
   abbrev message-lent : Lent
-  message-lent = lent a.0.now a.1.0.now a.1.1.0.now a.1.1.1.0.now a.1.1.1.1.0.now
+  message-lent = held a.0.now
 
   abbrev message-call : Call
-  message-call = sends a.1.1.1.1.1.0.now a.1.1.1.1.1.1.0.now a.1.1.1.1.1.1.1.0.now
+  message-call = sends a.1.0.now a.1.1.0.now a.1.1.1.0.now
 
 module _ (κs : Lfts (admit.signature).lifetimes) (a : World.ArgsD admit.signature κs) where
   abbrev admit-lent : Lent
@@ -59,7 +60,7 @@ pub data Meets (L : Lent) : Call → Said → Lent → Type 0 where
 
 -- the contracts say what the rules say
 pub right : (L : Lent) (c : Call) (a : Said) (M : Lent) → Meets L c a M → seen.AsRules L c a M
-right L c a M (by_message κs b r s e p) = seen.as_message e {x = message-answer κs r s} p
+right L c a M (by_message κs b r s e p) = seen.as_message e {x = message-answer κs r s} p.1
 right L c a M (by_admit κs b r s e p) = seen.as_admit e {x = admit-answer κs b r s} p
 right L c a M (by_release κs b r s e p) = seen.as_release e {x = release-answer κs b r s} p
 

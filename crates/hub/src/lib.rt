@@ -3,59 +3,41 @@
 #![tactic(auto)]
 
 ghost use Rattle.std.specs.Prelude.{◌≡◌};
-ghost use Rattle.rules.specs.Types.{NoFault};
-ghost use Rattle.rules.specs.Frame.{lent};
-ghost use Rattle.rules.specs.Calls.{explaining, message};
+ghost use Rattle.rules.specs.Calls.{telling, message};
+ghost use Rattle.lent.specs.Held.{held, SameTables};
 
 pub use carrying::carry_over;
 pub use copying::copy;
 pub use hosting::{admit, release};
+pub use lent::Tables;
 pub use messages::read;
-use words::{Fields, Outcome, Reason, Told, Way};
+use words::{Fields, Refusal, Told, Way};
 
-// An outcome that gives no reason.
-pub fn unexplained(outcome: Outcome) -> Told
-    ensures { (result.outcome ≡ outcome) × (result.reason ≡ NoFault) }
-{
-    Told {
-        outcome: outcome,
-        reason: Reason::NoFault,
-    }
-}
-
-// Handles a message: any octets, any contents and lengths of the lent slices.
+// Handles a message: any octets, any contents and lengths of the lent slices. "Order for a message: 17, 16, 10, 11, 12, 13, 15, then .."
 pub fn message(
-    devices: &mut [u8],
-    binds: &mut [u8],
-    groups: &mut [u8],
-    members: &mut [u8],
-    sessions: &mut [u8],
+    tables: &mut Tables<'_>,
     msg: &[u8],
     reply: &mut [u8],
     list: &mut [u8],
-) -> Told
-    ensures { explaining result.outcome result.reason
-        (lent devices.new binds.new groups.new members.new sessions.new)
-        reply.new list.new
-        ≡ message (lent devices.old binds.old groups.old members.old sessions.old)
-        msg.now reply.old list.old }
+) -> Result<Told, Refusal>
+    ensures same { SameTables tables.new tables.old }
+    ensures message { telling result (held tables.new) reply.new list.new ≡ message (held tables.old) msg.now reply.old list.old }
 {
-    let read = messages::read(msg);
-    let way = deciding::way_of(devices, binds, groups, members, sessions, read, reply, list);
-    let f = read.fields;
+    deciding::lending(tables.view(), reply, list)?;
+    let f = messages::read(msg)?;
+    let given = tables.view();
+    let way = deciding::way_on(given.devices, given.groups, f)?;
     match way {
-        Way::Refuse(outcome) => unexplained(outcome),
-        Way::Serve(command) => following::serve(
-            devices,
-            binds,
-            groups,
-            members,
-            sessions,
+        Way::Serve(command) => Ok(following::serve(
+            tables,
             command,
             f,
             &msg[Fields::HEADER..],
             reply,
-        ),
-        Way::Forward(to) => unexplained(following::forward(binds, members, to, f, list)),
+        )),
+        Way::Forward(to) => Ok(Told {
+            accepted: following::forward(given.binds, given.members, to, f, list),
+            reason: None,
+        }),
     }
 }

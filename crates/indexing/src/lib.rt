@@ -44,7 +44,7 @@ pub fn rank_at(binds: &[u8], position: u8) -> u64
     requires { position < length binds.now / size Binds }
     ensures { (result ≡ entry_rank (table Binds binds.now) position) × (result < 2 ^ 48) }
 {
-    let at = octets::wide(position) * BIND;
+    let at = position as usize * BIND;
     bind_key(bind_records::bind_at(binds, at)) * 256 + position as u64
 }
 
@@ -52,22 +52,23 @@ pub fn rank_at(binds: &[u8], position: u8) -> u64
 pub fn is_used(binds: &[u8], position: u8) -> bool
     ensures { result ≡ entry_used (table Binds binds.now) position }
 {
-    let wide = octets::wide(position);
-    if binds.len() / BIND <= wide {
+    let place = position as usize;
+    if binds.len() / BIND <= place {
         return false;
     }
-    !records::free_at(binds, BIND, wide * BIND)
+    !records::is_free(records::record_at(binds, BIND, place * BIND))
 }
 
-// Is it there, with a rank below this one? A search by halving asks it; mostly the source device decides.
+// Is it there, with a rank below this one? A search by halving asks it; mostly the source device decides. A bind is asked for its rank here and in `is_used`
+// whether it is free: what both ask before is one line.
 pub fn is_below(binds: &[u8], position: u8, rank: u64) -> bool
     ensures { result ≡ below (table Binds binds.now) rank position }
 {
-    let wide = octets::wide(position);
-    if binds.len() / BIND <= wide {
+    let place = position as usize;
+    if binds.len() / BIND <= place {
         return false;
     }
-    let device = octets::word_at(binds, wide * BIND + SOURCE) as u64;
+    let device = octets::word_at(binds, place * BIND + SOURCE) as u64;
     let wanted = rank / DEVICE_RANK;
     if device != wanted {
         return device < wanted;
@@ -75,19 +76,15 @@ pub fn is_below(binds: &[u8], position: u8, rank: u64) -> bool
     rank_at(binds, position) < rank
 }
 
-// How many binds are in use: so many entries the index has.
+// How many binds are in use: so many entries the index has. `entries::number_of_binds` counts them in the words of another definition; one function for both
+// would need both contracts.
 fn count_used(binds: &[u8]) -> usize
     ensures { result ≡ length (ranks 0 (table Binds binds.now)) }
 {
-    let mut count: usize = 0;
-    let mut at = 0;
-    while BIND <= binds.len() - at {
-        if !records::free_at(binds, BIND, at) {
-            count += 1;
-        }
-        at += BIND;
-    }
-    count
+    binds
+        .chunks_exact(BIND)
+        .filter(|record| !records::is_free(record))
+        .count()
 }
 
 // Does an entry name a used bind, of rank `low` or above?
@@ -106,14 +103,11 @@ fn rising_used(binds: &[u8], index: &[u8], n: usize) -> bool
     ensures { result ≡ rising_from (table Binds binds.now) 0 (take n index.now) }
 {
     let mut low: u64 = 0;
-    let mut i = 0;
-    while i < n {
-        let position = index[i];
-        if !entry_from(binds, position, low) {
+    for position in &index[..n] {
+        if !entry_from(binds, *position, low) {
             return false;
         }
-        low = rank_at(binds, position) + 1;
-        i += 1;
+        low = rank_at(binds, *position) + 1;
     }
     true
 }

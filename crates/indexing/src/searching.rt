@@ -15,17 +15,7 @@ fn count_between(binds: &[u8], index: &[u8], from: usize, to: usize, rank: u64) 
         × (ranked (table Binds binds.now) rank index.now ≤ to) × (to ≤ length index.now) }
     ensures { result ≡ ranked (table Binds binds.now) rank index.now }
 {
-    let mut lo = from;
-    let mut hi = to;
-    while lo < hi {
-        let mid = lo + (hi - lo) / 2;
-        if is_below(binds, index[mid], rank) {
-            lo = mid + 1;
-        } else {
-            hi = mid;
-        }
-    }
-    lo
+    from + index[from..to].partition_point(|position| is_below(binds, *position, rank))
 }
 
 // .. where it is no fewer than `from`, and mostly few more: the entry a little further on is looked at first.

@@ -3,7 +3,7 @@ ghost use Rattle.std.specs.Prelude.{◌≡◌, ◌+◌, ◌≤◌, length, take,
 ghost use Rattle.rules.specs.Types.{Members};
 ghost use Rattle.rules.specs.Layout.{size, member_group, member_device, member_unit};
 
-use crate::{MEMBER, MEMBER_DEVICE};
+use crate::MEMBER_DEVICE;
 use words::{DeviceAddress, GroupAddress};
 
 // A member, copied whole.
@@ -11,9 +11,7 @@ pub fn member_at(members: &[u8], at: usize) -> [u8; 5]
     requires { at + size Members ≤ length members.now }
     ensures { result ≡ take (size Members) (drop at members.now) }
 {
-    let mut member = [0; MEMBER];
-    octets::put(&mut member, records::record_at(members, MEMBER, at));
-    member
+    records::copy_at(members, at)
 }
 
 pub fn member_group(member: [u8; 5]) -> GroupAddress

@@ -1,16 +1,18 @@
 -- What a message answers is within what it was lent: a reply's length within the reply, three octets a recipient within the list.
-use Rattle.words.specs.Basics.{◌≡◌, refl, ap, Bool, true, false, cond, List, [], ◌∷◌, ℕ, ◌*◌, ◌≤◌, arith, eqb, length, drop, length-append}
+use Rattle.std.specs.Prelude.{Result, Err}
+use Rattle.words.specs.Basics.{◌≡◌, refl, sym, ap, ◌∙◌, Bool, true, false, cond, List, [], ◌∷◌, ℕ, ◌*◌, ◌≤◌, arith, eqb, length, drop, length-append}
 use Rattle.words.specs.Outcomes.{number_of, value_of}
-use Rattle.rules.specs.Types.{Fields, Command, Binds, Members, Outcome, Reason, Way}
+use Rattle.rules.specs.Types.{Fields, Command, Binds, Members, Outcome, Way, Refusal, Told}
 use Rattle.rules.specs.Octets.{over}
 use Rattle.rules.specs.Units.{unit_octets}
 use Rattle.rules.specs.Frame.{Lent, tables}
 use Rattle.rules.specs.Message.{fields, payload, reply}
 use Rattle.rules.specs.Recipients.{recipients}
 use Rattle.rules.specs.Commands.{judge, reply_payload}
-use Rattle.rules.specs.Calls.{Answer, explaining, answered, handled, forwarded, follow, message}
+use Rattle.rules.specs.Calls.{Answer, telling, answered, handled, forwarded, follow, message}
 use Rattle.rules.proofs.Order.{length-unit_octets}
 use Rattle.rules.proofs.RoundTrip.{reply-length}
+use Rattle.rules.proofs.ReadAs.{telling-reply, telling-list}
 use Rattle.rules.proofs.Ways.{Acting, Ways, refuses, serves, forwards, ways}
 use Rattle.report.specs.Text.{value_if, count_of, length_of}
 
@@ -50,11 +52,14 @@ fits-message : (L : Lent) (m r l : List ℕ) → Fits (message L m r l)
 unfolding message follow
 fits-message L m r l = by (ways L m r l)
   where
-    by : {w : Way} → Ways (Acting L m r l) (fields m) w → Fits (follow w L m r l)
-    by (refuses {o = o} n) = record { reply = omega (arith, none_of 0 o n.1); list = omega (arith, none_of 1 o n.1) }
+    by : {w : Result Way Refusal} → Ways (Acting L m r l) (fields m) w → Fits (follow w L m r l)
+    by (refuses {why = why} n) = record { reply = omega (arith, none_of 0 (Err why) n.1); list = omega (arith, none_of 1 (Err why) n.1) }
     by (serves {k = k} p e) = fits-handled L k (fields m) (payload m) r l
     by (forwards {to = to} p e) = fits-forwarded (recipients (tables L Binds) (tables L Members) to (fields m)) L r l
 
-pub within : (L : Lent) (m r l : List ℕ) {o : Outcome} {f : Reason} {L' : Lent} {r' l' : List ℕ} → explaining o f L' r' l' ≡ message L m r l → Within o r' l'
-within L m r l e =
-    rw (ap (λ (x : Answer). x.outcome) e, ap (λ (x : Answer). x.reply) e, ap (λ (x : Answer). x.list) e) (fits-message L m r l)
+pub within : (L : Lent) (m r l : List ℕ) (t : Result Told Refusal) (L' : Lent) (r' l' : List ℕ) → telling t L' r' l' ≡ message L m r l
+    → Within (telling t L' r' l').outcome r' l'
+within L m r l t L' r' l' e =
+    let er : r' ≡ (message L m r l).reply = sym (telling-reply t L' r' l') ∙ ap (λ (x : Answer). x.reply) e in
+    let el : l' ≡ (message L m r l).list = sym (telling-list t L' r' l') ∙ ap (λ (x : Answer). x.list) e in
+    rw (ap (λ (x : Answer). x.outcome) e, er, el) (fits-message L m r l)

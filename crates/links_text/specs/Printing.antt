@@ -1,8 +1,8 @@
 -- The text of `links` (document 01, Rows to try): four tables at full size and then the message, answered with all sessions free, a reply and a list of
 -- zeros.
-use Rattle.std.specs.Prelude.{cond, List, ℕ, ◌+◌, ◌*◌, ltb, length, take, drop, replicate}
+use Rattle.std.specs.Prelude.{cond, List, ℕ, ◌+◌, ◌*◌, ltb, length, take, drop, replicate, Option, None}
 use Rattle.words.specs.Names.{longest}
-use Rattle.rules.specs.Types.{Reason, NoFault, Devices, Binds, Groups, Members, Sessions}
+use Rattle.rules.specs.Types.{Reason, Devices, Binds, Groups, Members, Sessions}
 use Rattle.rules.specs.Tables.{free}
 use Rattle.rules.specs.Layout.{most, full}
 use Rattle.rules.specs.Frame.{Lent, lent}
@@ -41,5 +41,5 @@ unfoldable pub printed : List ℕ → List ℕ
 printed s = cond (ltb (length s) all_tables) short_text (answer_text (answered s).outcome (answered s).reply (answered s).list)
 
 -- why an Add Bind is answered 0x02 (document 02, request 6)
-unfoldable pub reasoned : List ℕ → Reason
-reasoned s = cond (ltb (length s) all_tables) NoFault (answered s).reason
+unfoldable pub reasoned : List ℕ → Option Reason
+reasoned s = cond (ltb (length s) all_tables) None (answered s).reason

@@ -2,11 +2,14 @@
 // request 6).
 #![tactic(auto)]
 
-ghost use Rattle.std.specs.Prelude.{◌≡◌, ◌≤◌, length};
+ghost use Rattle.std.specs.Prelude.{◌≡◌, List, ℕ, ◌≤◌, length};
+ghost use Rattle.rules.specs.Frame.{Lent};
+ghost use Rattle.rules.specs.Calls.{telling};
 ghost use Rattle.writing.specs.Writing.{Printed};
 ghost use Rattle.links_text.specs.Printing.{all_tables, printed, reasoned};
 
-use words::{Fields, Reason};
+use hub::Tables;
+use words::{Fields, Outcome, Reason, Refusal, Told};
 
 // The tables at full size.
 const DEVICES: usize = layouts::MOST_DEVICES * layouts::DEVICE;
@@ -33,13 +36,27 @@ const LIST: usize = 3 * (layouts::MOST_BINDS + layouts::MOST_MEMBERS);
 
 // How long the text is, and the reason.
 #[derive(Drop)]
-pub struct Text {
+pub struct Output {
     pub length: usize,
-    pub reason: Reason,
+    pub reason: Option<Reason>,
+}
+
+// What a message came to, or why it was refused.
+fn outcome_of(told: Result<Told, Refusal>) -> Outcome
+    ensures { (L : Lent) (r l : List ℕ) → result ≡ (telling told L r l).outcome }
+{
+    Ok(told?.accepted)
+}
+
+// Why an Add Bind was answered 0x02.
+fn reason_of(told: Result<Told, Refusal>) -> Option<Reason>
+    ensures { (L : Lent) (r l : List ℕ) → result ≡ (telling told L r l).reason }
+{
+    told.ok()?.reason
 }
 
 // The text for a whole input: the tables are copied out of it, since a call may change them. No device has a read session.
-fn answer(input: &[u8], text: &mut [u8]) -> Text
+fn answer(input: &[u8], text: &mut [u8]) -> Output
     requires { (all_tables ≤ length input.now) × (2048 ≤ length text.old) }
     ensures { Printed (printed input.now) text.old result.length text.new × (result.reason ≡ reasoned input.now) }
 {
@@ -54,35 +71,31 @@ fn answer(input: &[u8], text: &mut [u8]) -> Text
     let mut sessions = [records::FREE; SESSIONS];
     let mut reply = [0u8; Fields::LONGEST];
     let mut list = [0u8; LIST];
-    let told = hub::message(
-        &mut devices,
-        &mut binds,
-        &mut groups,
-        &mut members,
-        &mut sessions,
-        &input[AT_MESSAGE..],
-        &mut reply,
-        &mut list,
-    );
-    let outcome = told.outcome;
-    let reason = told.reason;
-    let n = report::write_answer(outcome, &reply, &list, text);
-    Text {
-        length: n,
-        reason: reason,
+    let mut tables = Tables {
+        devices: &devices,
+        binds: &mut binds,
+        groups: &mut groups,
+        members: &mut members,
+        sessions: &mut sessions,
+    };
+    let told = hub::message(&mut tables, &input[AT_MESSAGE..], &mut reply, &mut list);
+    let length = report::write_answer(outcome_of(told), &reply, &list, text);
+    Output {
+        length,
+        reason: reason_of(told),
     }
 }
 
 // Writes what `links` prints for this input over `text`.
-pub fn print(input: &[u8], text: &mut [u8]) -> Text
+pub fn print(input: &[u8], text: &mut [u8]) -> Output
     requires { 2048 ≤ length text.old }
     ensures { Printed (printed input.now) text.old result.length text.new × (result.reason ≡ reasoned input.now) }
 {
     if input.len() < AT_MESSAGE {
-        let n = report::write_short(text);
-        return Text {
-            length: n,
-            reason: Reason::NoFault,
+        let length = report::write_short(text);
+        return Output {
+            length,
+            reason: None,
         };
     }
     answer(input, text)

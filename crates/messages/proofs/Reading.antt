@@ -1,32 +1,26 @@
--- Laws of reading: what a caller knows from the number of the outcome, 0 or another.
-use Rattle.words.specs.Basics.{◌≡◌, refl, ap, ◌∙◌, Bool, true, false, List, ℕ, ◌-◌, ◌≤◌, eqb, leb, length, eq-eqb, ne_eqb, leb-true}
+-- Laws of reading: what a caller knows from the fields that were read, or from the refusal.
+use Rattle.std.specs.Prelude.{Ok, Err}
+use Rattle.words.specs.Basics.{◌≡◌, refl, sym, ap, ◌∙◌, Bool, true, false, ◌&&◌, List, ℕ, ◌-◌, ◌≤◌, eqb, leb, length, leb-true}
 use Rattle.words.specs.Names.{no_fields, header_length, command_type, last_type}
-use Rattle.words.specs.Outcomes.{number_of}
-use Rattle.rules.specs.Types.{Fields, Outcome, Done, WrongLength, WrongDataLength, WrongType, Reading}
+use Rattle.rules.specs.Types.{Fields, Outcome, Refusal, Done, WrongLength, WrongDataLength, WrongType}
 use Rattle.rules.specs.Lists.{ask, ◌&◌}
-use Rattle.rules.specs.Message.{fields, length_fits, data_length_fits, type_fits, reads, reading_of, reading}
-use Rattle.rules.proofs.Lists.{split, ask_pass, ask_fail}
+use Rattle.rules.specs.Message.{fields, length_fits, data_length_fits, type_fits, reads, Reading, reading_of, read_as, reading}
+use Rattle.rules.proofs.Lists.{split}
 
--- is it outcome 0?
-abbrev clear : Outcome → Bool
-clear o = eqb (number_of o) 0
+-- what follows an outcome of reading: the rest, or the refusal
+abbrev pub then : {A : Type 0} → Outcome → (Refusal → A) → A → A
+then (Ok x) refuse rest = rest
+then (Err why) refuse rest = refuse why
 
--- the checks by the outcome that they give: the rest where it is 0, else a refusal with it
-reads_is : {A : Type 0} (m : List ℕ) (refuse : Outcome → A) (rest : A)
-    → reads m refuse rest ≡ ask (clear (reading m).outcome) (refuse (reading m).outcome) rest
+-- the checks at the head of any chain are what reading says
+reads_is : {A : Type 0} (m : List ℕ) (refuse : Refusal → A) (rest : A) → reads m refuse rest ≡ then (reading m).outcome refuse rest
 unfolding ask reads reading
 reads_is {A} m refuse rest = step (length_fits m) (data_length_fits m) (type_fits m)
   where
-    of : (a b c : Bool) → Reading
-    of a b c =
-        ask a (reading_of WrongLength no_fields)
-        (ask b (reading_of WrongDataLength no_fields)
-        (ask c (reading_of WrongType no_fields)
-        (reading_of (Done 0) (fields m))))
+    of : {B : Type 0} → (Refusal → B) → B → Bool → Bool → Bool → B
+    of refuse rest a b c = ask a (refuse WrongLength) (ask b (refuse WrongDataLength) (ask c (refuse WrongType) rest))
 
-    step : (a b c : Bool)
-        → ask a (refuse WrongLength) (ask b (refuse WrongDataLength) (ask c (refuse WrongType) rest))
-        ≡ ask (clear (of a b c).outcome) (refuse (of a b c).outcome) rest
+    step : (a b c : Bool) → of refuse rest a b c ≡ then (of (λ why. reading_of (Err why) no_fields) (reading_of (Ok (Done 0)) (fields m)) a b c).outcome refuse rest
     step true true true = refl
     step true true false = refl
     step true false c = refl
@@ -37,6 +31,11 @@ passed : (b rest : Bool) → ask b false rest ≡ true → b ≡ true
 unfolding ask
 passed true rest e = refl
 passed false rest e = e
+
+-- both of two tests, as a function answers it
+pub and_is : (a b : Bool) → (a & b) ≡ (a && b)
+unfolding ◌&◌
+and_is a b = refl
 
 -- the length of a message that passes the first check
 pub long_enough : (m : List ℕ) → length_fits m ≡ true → header_length ≤ length m
@@ -53,31 +52,26 @@ module _ (m : List ℕ) {f : Fields} (e : f ≡ fields m) where
   unfolding fields type_fits
   said-type = rw e
 
--- r was read, and n is the number of its outcome
-module _ (m : List ℕ) {r : Reading} {n : ℕ} (e : r ≡ reading m) (k : n ≡ number_of r.outcome) where
-  is_clear : n ≡ 0 → clear (reading m).outcome ≡ true
-  is_clear z = eq-eqb (number_of (reading m).outcome) 0 (rw (← e, ← k) z)
+-- what `read` knows of its checks
+pub ruleset checks = (long_enough, said-length, said-type)
 
-  not-clear : (n ≡ 0 → ⊥) → clear (reading m).outcome ≡ false
-  not-clear z = ne_eqb (number_of (reading m).outcome) 0 (rw (← e, ← k) z)
+-- The checks at the head of any chain, by what was read: what follows them and what is known there, or the refusal
 
-  -- the checks at the head of any chain: what follows them, or the outcome
+module _ (m : List ℕ) {f : Fields} (e : read_as (Ok f) ≡ reading m) where
+  pub reads_on : {A : Type 0} (refuse : Refusal → A) (rest : A) → reads m refuse rest ≡ rest
+  reads_on refuse rest = reads_is m refuse rest ∙ ap (λ (y : Reading). then y.outcome refuse rest) (sym e)
 
-  pub reads_on : {A : Type 0} (refuse : Outcome → A) (rest : A) → n ≡ 0 → reads m refuse rest ≡ rest
-  reads_on refuse rest z = reads_is m refuse rest ∙ ask_pass _ _ (is_clear z)
-
-  pub reads-refused : {A : Type 0} (refuse : Outcome → A) (rest : A) → (n ≡ 0 → ⊥) → reads m refuse rest ≡ refuse r.outcome
-  reads-refused refuse rest z = reads_is m refuse rest ∙ ask_fail _ _ (not-clear z) ∙ rw e
-
-  -- what was read are the fields, and the header is there
-
-  pub read-fields : n ≡ 0 → r.fields ≡ fields m
+  pub read-fields : f ≡ fields m
   unfolding reading
-  read-fields z = ap (λ (x : Reading). x.fields) (e ∙ reads_on (λ o. reading_of o no_fields) (reading_of (Done 0) (fields m)) z)
+  read-fields = ap (λ (y : Reading). y.fields) (e ∙ reads_on (λ why. reading_of (Err why) no_fields) (reading_of (Ok (Done 0)) (fields m)))
 
-  pub read_length : n ≡ 0 → length_fits m ≡ true
+  pub read_length : length_fits m ≡ true
   unfolding reads
-  read_length z = passed _ _ (reads_on (λ o. false) true z)
+  read_length = passed _ _ (reads_on (λ why. false) true)
 
-  pub read-long : n ≡ 0 → header_length ≤ length m
-  read-long z = long_enough m (read_length z)
+  pub read-long : header_length ≤ length m
+  read-long = long_enough m read_length
+
+pub reads-refused : (m : List ℕ) {why : Refusal} → read_as (Err why) ≡ reading m
+    → {A : Type 0} (refuse : Refusal → A) (rest : A) → reads m refuse rest ≡ refuse why
+reads-refused m e refuse rest = reads_is m refuse rest ∙ ap (λ (y : Reading). then y.outcome refuse rest) (sym e)

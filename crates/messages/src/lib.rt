@@ -2,13 +2,13 @@
 #![tactic(auto)]
 
 ghost use Rattle.std.specs.Prelude.{◌≡◌, ◌+◌, ◌-◌, ◌≤◌, eqb, leb, length};
-ghost use Rattle.words.specs.Names.{no_fields, header_length, longest, command_type, last_type};
+ghost use Rattle.words.specs.Names.{header_length, longest, command_type, last_type};
 ghost use Rattle.rules.specs.Lists.{◌&◌};
 ghost use Rattle.rules.specs.Octets.{octets, over};
-ghost use Rattle.rules.specs.Message.{fields, destination, response, length_fits, reading_of, reading, header, answering};
+ghost use Rattle.rules.specs.Message.{fields, destination, response, length_fits, read_as, reading, header, answering};
 ghost use Rattle.messages.specs.Ranges.{Ranged};
 
-use words::{Destination, DeviceAddress, Fields, GroupAddress, Outcome, Reading};
+use words::{Destination, DeviceAddress, Fields, GroupAddress, Refusal};
 
 // What a message says in its first fifteen octets; reserved bits and transport are ignored. A data length has nine bits.
 fn fields(message: &[u8]) -> Fields
@@ -35,10 +35,11 @@ fn fields(message: &[u8]) -> Fields
 }
 
 // Outcome 10: fifteen to five hundred octets.
+#[tactic(auto, using(crate::proofs::Reading::and_is), unfolding(rules::specs::Message::length_fits))]
 fn length_fits(message: &[u8]) -> bool
     ensures { result ≡ length_fits message.now }
 {
-    (Fields::HEADER <= message.len()) & (message.len() <= Fields::LONGEST)
+    (Fields::HEADER..=Fields::LONGEST).contains(&message.len())
 }
 
 // Outcome 11: the data length is that of the payload, in a message of n octets.
@@ -50,70 +51,57 @@ fn data_length_fits(data_length: u16, n: usize) -> bool
 }
 
 // Outcome 12: from the first type to the last.
+#[tactic(auto, using(crate::proofs::Reading::and_is))]
 fn type_fits(message_type: u8) -> bool
     ensures { result ≡ leb command_type message_type & leb message_type last_type }
 {
-    (Fields::COMMAND <= message_type) & (message_type <= Fields::LAST_TYPE)
+    (Fields::COMMAND..=Fields::LAST_TYPE).contains(&message_type)
 }
 
-// Why a message cannot be read, and every field 0.
-fn refused(outcome: Outcome) -> Reading
-    ensures { result ≡ reading_of outcome no_fields }
-{
-    Reading {
-        outcome: outcome,
-        fields: Fields::NONE,
-    }
-}
-
-// Reads any octets: the fields, or why not and every field 0 (document 01, Outcomes: "Reading alone"). The checks that reading, copying
-// and handling a message share are made here, in the paper's order, and nowhere else are its fields taken from the octets.
-pub fn read(message: &[u8]) -> Reading
-    ensures { result ≡ reading message.now }
+// Reads any octets: the fields, or why not (document 01, Outcomes: "Reading alone"). The checks that reading, copying and handling a message share are made
+// here, in the paper's order, and nowhere else are its fields taken from the octets.
+#[tactic(auto, using(crate::proofs::Reading::checks), unfolding(rules::specs::Message::reading, rules::specs::Message::reads, rules::specs::Lists::ask))]
+pub fn read(message: &[u8]) -> Result<Fields, Refusal>
+    ensures { read_as result ≡ reading message.now }
 {
     if !length_fits(message) {
-        return refused(Outcome::WrongLength);
+        return Err(Refusal::WrongLength);
     }
     let said = fields(message);
     if !data_length_fits(said.data_length, message.len()) {
-        return refused(Outcome::WrongDataLength);
+        return Err(Refusal::WrongDataLength);
     }
     if !type_fits(said.message_type) {
-        return refused(Outcome::WrongType);
+        return Err(Refusal::WrongType);
     }
-    Reading {
-        outcome: Outcome::Done(0),
-        fields: said,
-    }
+    Ok(said)
 }
 
 // Where a message goes: a group and a device of one number are told apart here, once.
+#[tactic(auto, using(crate::proofs::Reading::and_is), unfolding(rules::specs::Message::destination))]
 pub fn destination(f: Fields) -> Destination
     ensures { result ≡ destination f }
 {
-    let number = f.destination;
-    let unit = f.destination_unit;
     if f.address_type == Fields::SET {
-        return Destination::Group(GroupAddress(number));
+        return Destination::Group(GroupAddress(f.destination));
     }
-    if (number == DeviceAddress::CONCENTRATOR.0) & (unit == 0) {
-        return Destination::Concentrator;
+    match (DeviceAddress(f.destination), f.destination_unit) {
+        (DeviceAddress::CONCENTRATOR, 0) => Destination::Concentrator,
+        (DeviceAddress::BIND, DeviceAddress::NO_UNIT) => Destination::BindAddress,
+        (device, unit) => Destination::Unit(device, unit),
     }
-    if (number == DeviceAddress::BIND.0) & (unit == DeviceAddress::NO_UNIT) {
-        return Destination::BindAddress;
-    }
-    Destination::Unit(DeviceAddress(number), unit)
 }
 
 // "Response types are 0x03, 0x05, 0x08, 0x0A, 0x0D, 0x10; the other ten are requests." A response goes to one unit only (outcome 15).
+#[tactic(auto, unfolding(rules::specs::Lists::any, rules::specs::Message::response))]
 pub fn is_response(f: Fields) -> bool
     ensures { result ≡ response f }
 {
-    let t = f.message_type;
-    (t == 0x03) | (t == 0x05) | (t == 0x08) | (t == 0x0A) | (t == 0x0D) | (t == 0x10)
+    matches!(f.message_type, 0x03 | 0x05 | 0x08 | 0x0A | 0x0D | 0x10)
 }
 
 // The fields of the reply to a request, with n octets of payload: from D'0:U'0 to the sender, type 0x03.
+#[tactic(auto, unfolding(rules::specs::Message::answering))]
 fn answering(request: Fields, n: u16) -> Fields
     ensures { result ≡ answering request n }
 {
@@ -134,6 +122,7 @@ fn answering(request: Fields, n: u16) -> Fields
 }
 
 // The fifteen octets of a header. Its reserved bits and its transport are 0.
+#[tactic(auto, unfolding(rules::specs::Octets::octets, rules::specs::Octets::joined, rules::specs::Message::header))]
 fn header_octets(f: Fields) -> [u8; 15]
     requires { Ranged f }
     ensures { result ≡ header f }
@@ -161,6 +150,7 @@ fn header_octets(f: Fields) -> [u8; 15]
 }
 
 // Writes the header of the reply to a request over the first fifteen octets, once its n octets of payload stand behind them.
+#[tactic(auto, using(crate::proofs::Replies::answering_ranged))]
 pub fn write_header(lent: &mut [u8], request: Fields, n: usize)
     requires { (header_length ≤ length lent.old) × (header_length + n ≤ longest) × Ranged request }
     ensures { lent.new ≡ over (header (answering request n)) lent.old }

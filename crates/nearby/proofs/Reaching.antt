@@ -1,4 +1,5 @@
 -- The binds near a message reach whom all binds reach.
+use Rattle.std.specs.Prelude.{Option}
 use Rattle.words.specs.Basics.{◌≡◌, refl, sym, ◌∙◌, Bool, true, false≢true, not, List, map, ℕ, ◌<◌, ◌≤◌, arith, length, get_or}
 use Rattle.words.specs.declared.Destination.{Destination}
 use Rattle.rules.specs.Types.{Fields, Concentrator, BindAddress, Unit, Group, Binds, Members}
@@ -15,7 +16,6 @@ use Rattle.index_rules.proofs.Entries.{right-listed}
 use Rattle.index_rules.proofs.Nearby.{nearby}
 use Rattle.indexing.proofs.Positions.{entry-octet}
 use Rattle.collecting.specs.Leaving.{left_out, leaving, bound_but}
-use Rattle.collecting.specs.declared.Except.{Except}
 use Rattle.delivery.proofs.Enough.{Within, all_units, bound-within}
 use Rattle.nearby.specs.Running.{near_but, to_binds}
 
@@ -26,7 +26,7 @@ module _ (bs : List ℕ) {ix : List ℕ} (o : (i : ℕ) → get_or bs i 0 < 256)
   pub near-listed : Listed (table Binds bs) ix
   near-listed = rw e (right-listed (table Binds bs) few)
 
-  module _ (ms : List ℕ) (x : Except) (f : Fields) where
+  module _ (ms : List ℕ) (x : Option ℕ) (f : Fields) where
     near_reach : (u : ℕ) → has u (near_but x f (table Members ms) (table Binds bs) ix) ≡ has u (bound_but x f (table Members ms) (table Binds bs))
     unfolding near_but bound_but leaving
     near_reach u =

@@ -1,7 +1,9 @@
 -- Laws of a run of an index, entry by entry.
 use native.Mathlib.Numerals.{add-one}
-use Rattle.words.specs.Basics.{◌≡◌, refl, sym, ◌∙◌, Bool, true, false, false≢true, List, [], ◌∷◌, ℕ, suc, ◌+◌, ◌-◌, ◌*◌, ◌/◌, ◌<◌, ◌≤◌, arith, length, take}
-use Rattle.words.specs.Basics.{drop, get_or, drop-cons, ltb-true, lt-ltb}
+use Rattle.std.specs.List.{between}
+use Rattle.std.proofs.lemmas.List.Edits.{get_or-between}
+use Rattle.words.specs.Basics.{◌++◌, ◌≡◌, refl, sym, ◌∙◌, Bool, true, false, false≢true, List, [], ◌∷◌, ℕ, suc, ◌+◌, ◌-◌, ◌*◌, ◌/◌, ◌<◌, ◌≤◌, arith, length}
+use Rattle.words.specs.Basics.{take, drop, get_or, drop-cons, ltb-true, lt-ltb}
 use Rattle.rules.specs.Types.{Binds}
 use Rattle.rules.specs.Tables.{Rec}
 use Rattle.rules.specs.Layout.{size}
@@ -30,13 +32,19 @@ module _ (bs : List Rec) (ix : List ℕ) where
       let m : to - i ≡ 0 = omega arith in
       rw m
 
--- the bind at the place i in the octets of the table
-module _ (t ix : List ℕ) {from i to w : ℕ} (N : Naming (table Binds t) ix from to) (l : i < to) (e : w ≡ get_or ix i 0) where
-  pub named_inside : w < length t / size Binds
-  named_inside = rw (e, ← length-records (size Binds) t) (N.there i l)
+-- the bind that the entry at place i of a run names, in the octets of the table
+module _ (t ix : List ℕ) (i : ℕ) {from to w : ℕ} (N : Naming (table Binds t) ix from to) (l : from + i < to) (e : w ≡ get_or (between from to ix) i 0) where
+  same_entry : w ≡ get_or ix (from + i) 0
+  same_entry = e ∙ get_or-between ix from to i 0 l
 
-  pub named_next : named (table Binds t) ix i to ≡ take (size Binds) (drop (w * size Binds) t) ∷ named (table Binds t) ix (i + 1) to
-  named_next = named-at (table Binds t) ix i to N.within l ∙ rw (← e, entry_at w t named_inside)
+  pub named_inside : w < length t / size Binds
+  named_inside = rw (same_entry, ← length-records (size Binds) t) (N.there (from + i) l)
+
+  pub named_next : {r : Rec} → r ≡ take (size Binds) (drop (w * size Binds) t)
+      → named (table Binds t) ix (from + i) to ≡ (r ∷ []) ++ named (table Binds t) ix (from + (i + 1)) to
+  named_next q =
+      let s : from + (i + 1) ≡ from + i + 1 = omega arith in
+      rw (s, named-at (table Binds t) ix (from + i) to N.within l, ← same_entry, entry_at w t named_inside, q)
 
 -- no fewer entries are below the first rank past a device than below its own first
 pub device-rises : (bs : List Rec) (ix : List ℕ) (d : ℕ) → ranked bs (device_rank d) ix ≤ ranked bs (device_rank (suc d)) ix

@@ -14,13 +14,10 @@ ghost use Rattle.collecting.specs.Leaving.{bound_but};
 ghost use Rattle.delivery.specs.Delivering.{Deliverable};
 ghost use Rattle.nearby.specs.Running.{named, Standing, Naming, near_but, to_binds};
 
-use collecting::{Except, Recipients};
+use collecting::Recipients;
 use indexing::DEVICE_RANK;
 use layouts::BIND;
 use words::{Destination, DeviceAddress, Fields};
-
-// The octets of an entry.
-const ENTRY: usize = 1;
 
 // Entries of an index, from one place up to another.
 #[derive(Drop)]
@@ -29,7 +26,7 @@ struct Run {
     to: usize,
 }
 
-// The ranks of a source device: the first of them, and the first past them.
+// The ranks of a source device: the first of them, and the first past them, which is the next device's only where there is one.
 fn first_rank(device: u16) -> u64
     ensures { result ≡ device_rank device }
 {
@@ -61,7 +58,7 @@ fn take_run(
     run: Run,
     members: &[u8],
     f: Fields,
-    except: Except,
+    except: Option<u32>,
 ) -> Recipients
     requires { Naming (table Binds binds.now) index.now run.from run.to
         × Enough (bound_but except f (table Members members.now) (named (table Binds binds.now) index.now run.from run.to))
@@ -70,19 +67,10 @@ fn take_run(
         (named (table Binds binds.now) index.now run.from run.to))
         so_far.count list.old result.count list.new }
 {
-    let to = run.to;
-    let mut i = run.from;
     let mut r = so_far;
-    while ENTRY <= to - i {
-        r = r.take_bind(
-            list,
-            binds,
-            octets::wide(index[i]) * BIND,
-            members,
-            f,
-            except,
-        );
-        i += ENTRY;
+    for position in &index[run.from..run.to] {
+        let record = records::record_at(binds, BIND, *position as usize * BIND);
+        r = r.take_bind(list, record, members, f, except);
     }
     r
 }
@@ -94,7 +82,7 @@ fn take_near(
     index: &[u8],
     members: &[u8],
     f: Fields,
-    except: Except,
+    except: Option<u32>,
 ) -> Recipients
     requires { Listed (table Binds binds.now) index.now
         × Enough (near_but except f (table Members members.now) (table Binds binds.now) index.now) 0 list.old }
@@ -123,7 +111,7 @@ fn near_in_order(
     index: &[u8],
     members: &[u8],
     f: Fields,
-    except: Except,
+    except: Option<u32>,
 ) -> usize
     requires { Deliverable binds.now members.now list.old × (index.now ≡ right_index (table Binds binds.now)) }
     ensures { Listing list.old list.new result
@@ -139,12 +127,7 @@ fn near_in_order(
 fn to_binds(to: Destination) -> bool
     ensures { result ≡ to_binds to }
 {
-    match to {
-        Destination::Concentrator => false,
-        Destination::BindAddress => true,
-        Destination::Unit(_, _) => false,
-        Destination::Group(_) => false,
-    }
+    to == Destination::BindAddress
 }
 
 // Who gets the message: `delivery::deliver` with the index of the binds.
@@ -161,7 +144,7 @@ pub fn deliver(
         (recipients (table Binds binds.now) (table Members members.now) to f) }
 {
     if to_binds(to) {
-        let without = Except::Sender(matching::sender(f));
+        let without = Some(matching::sender(f));
         return near_in_order(list, binds, index, members, f, without);
     }
     delivery::deliver(binds, members, to, f, list)

@@ -10,7 +10,7 @@ ghost use Rattle.rules.specs.Octets.{bit, word, starts, over};
 pub fn join(hi: u8, lo: u8) -> u16
     ensures { result ≡ hi * 256 + lo }
 {
-    (hi as u16) << 8 | lo as u16
+    u16::from_be_bytes([hi, lo])
 }
 
 pub fn high(w: u16) -> u8
@@ -67,13 +67,6 @@ pub fn bit(octet: u8, k: u8) -> u8
     octet >> k & 1
 }
 
-// An octet as a count.
-pub fn wide(octet: u8) -> usize
-    ensures { result ≡ octet }
-{
-    octet as usize
-}
-
 // The word at `at`.
 pub fn word_at(s: &[u8], at: usize) -> u16
     requires { at + 1 < length s.now }
@@ -87,14 +80,7 @@ pub fn same_at(s: &[u8], at: usize, want: &[u8]) -> bool
     requires { at + length want.now ≤ length s.now }
     ensures { result ≡ starts want.now (drop at s.now) }
 {
-    let mut j = 0;
-    while j < want.len() {
-        if s[at + j] != want[j] {
-            return false;
-        }
-        j += 1;
-    }
-    true
+    s[at..].starts_with(want)
 }
 
 // Are the n octets from `at` on all this value?
@@ -102,14 +88,7 @@ pub fn all_at(s: &[u8], at: usize, n: usize, value: u8) -> bool
     requires { at + n ≤ length s.now }
     ensures { result ≡ all (λ o. eqb o value) (take n (drop at s.now)) }
 {
-    let mut j = 0;
-    while j < n {
-        if s[at + j] != value {
-            return false;
-        }
-        j += 1;
-    }
-    true
+    s[at..at + n].iter().all(|octet| *octet == value)
 }
 
 // Writes a run of octets from `at` on.
@@ -117,11 +96,7 @@ pub fn write_at(s: &mut [u8], at: usize, run: &[u8])
     requires { at + length run.now ≤ length s.old }
     ensures { s.new ≡ sets s.old at run.now }
 {
-    let mut j = 0;
-    while j < run.len() {
-        s[at + j] = run[j];
-        j += 1;
-    }
+    s[at..at + run.len()].copy_from_slice(run);
 }
 
 // Writes a run of octets over the first ones; those past it stay.
@@ -137,9 +112,5 @@ pub fn fill_at(s: &mut [u8], at: usize, n: usize, value: u8)
     requires { at + n ≤ length s.old }
     ensures { s.new ≡ sets s.old at (replicate n value) }
 {
-    let mut j = 0;
-    while j < n {
-        s[at + j] = value;
-        j += 1;
-    }
+    s[at..at + n].fill(value);
 }

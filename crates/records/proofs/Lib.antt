@@ -1,2 +1,4 @@
 -- The laws that the proofs of this crate and of those above it cite.
 pub mod Search
+pub mod Storing
+pub mod Walks

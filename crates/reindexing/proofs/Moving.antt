@@ -1,44 +1,35 @@
 -- What the loops over an index know at each turn: what is left to do gives the answer.
-use lib.Seq.{drop-set-lt, take-append_seam, take-suc-set}
+use lib.Seq.{drop-set-lt, take-append_seam, take-append-add, take-append-le, take-take, take-suc-set}
+use Rattle.std.specs.Prelude.{Option, None, Some}
+use Rattle.std.specs.Option.{unwrap_or}
+use Rattle.std.proofs.lemmas.List.Recursion.{is_position_or_len}
+use Rattle.std.proofs.lemmas.List.Sums.{prefix_len-le-length}
 use native.Mathlib.Numerals.{add-one}
-use Rattle.words.specs.Basics.{◌≡◌, refl, sym, ◌∙◌, Bool, true, false, cond, List, ◌∷◌, ◌++◌, append_assoc, append-nil, ℕ, suc, ◌+◌, ◌-◌, ◌*◌, ◌≤◌, ◌<◌, arith}
-use Rattle.words.specs.Basics.{length, take, drop, get_or, set, replicate, length-set, length-replicate, length-take-le, take_all, drop-cons, drop_of_length-le}
-use Rattle.words.specs.Basics.{sets, sets-eq, drop-length}
+use Rattle.std.specs.List.{copy_within, position_or_len}
+use Rattle.words.specs.Basics.{ltb, ltb-false, not, length-append, drop_at, ap, [], ◌≡◌, refl, sym, ◌∙◌, Bool, true, false, cond, List, ◌∷◌, ◌++◌}
+use Rattle.words.specs.Basics.{append_assoc, append-nil, ℕ, suc, ◌+◌, ◌-◌, ◌≤◌, ◌<◌, arith, length, take, drop, get_or, set, replicate, length-set}
+use Rattle.words.specs.Basics.{length-replicate, length-take-le, take_all, drop-cons, drop_of_length-le, sets, sets-eq, drop-length}
 use Rattle.rules.specs.Lists.{keep}
-use Rattle.rules.specs.Tables.{records, free, is_free}
-use Rattle.rules.proofs.Records.{records-at, records_end}
+use Rattle.rules.specs.Tables.{Rec, free, is_free}
 use Rattle.index_rules.specs.Index.{filled}
 use Rattle.index_rules.specs.Walks.{insert_at, first_free}
 
--- Looking for the first free record, from the one at `at` on, which stands at position n
+-- The first free record
 
-pub record Looking (t : List ℕ) (at n : ℕ) : Type 0 where
-  pub within : at ≤ length t
-  pub place : n * 8 ≡ at
-  pub rest : n + first_free (records 8 (drop at t)) ≡ first_free (records 8 t)
-
-pub looking_start : {t : List ℕ} → Looking t 0 0
-looking_start = record { within = omega arith; place = refl; rest = omega arith }
-
-looking_step : (t : List ℕ) (at : ℕ) → at + 8 ≤ length t
-    → first_free (records 8 (drop at t)) ≡ cond (is_free (take 8 (drop at t))) 0 (suc (first_free (records 8 (drop (at + 8) t))))
+first_free_is : (bs : List Rec) → first_free bs ≡ position_or_len is_free bs
 unfolding first_free
-looking_step t at h = rw (records-at 8 at t (omega arith) h)
+first_free_is bs = is_position_or_len first_free is_free refl more bs
+  where
+    more : (b : Rec) (bs : List Rec) → cond (is_free b) 0 (suc (first_free bs)) ≡ cond (is_free b) 0 (1 + first_free bs)
+    more b bs = elim (is_free b) as (λ x. cond x 0 (suc (first_free bs)) ≡ cond x 0 (1 + first_free bs)) [ true ↦ refl | false ↦ omega arith ]
 
-module _ {t : List ℕ} {at n : ℕ} (c : Looking t at n) {b : Bool} (e : b ≡ is_free (take 8 (drop at t))) where
-  pub looking_hit : at + 8 ≤ length t → b ≡ true → n ≡ first_free (records 8 t)
-  looking_hit h f =
-      let s : first_free (records 8 (drop at t)) ≡ 0 = looking_step t at h ∙ rw (← e, f) in
-      omega (arith, c.rest, s)
-
-  pub looking_more : at + 8 ≤ length t → b ≡ false → Looking t (at + 8) (n + 1)
-  looking_more h f =
-      let s : first_free (records 8 (drop at t)) ≡ suc (first_free (records 8 (drop (at + 8) t))) = looking_step t at h ∙ rw (← e, f) in
-      record { within = h; place = omega (arith, c.place); rest = omega (arith, c.rest, s) }
-
-pub looking_end : {t : List ℕ} {at n : ℕ} → Looking t at n → length t - at < 8 → n ≡ first_free (records 8 t)
-unfolding first_free
-looking_end {t} {at} c h = let s : first_free (records 8 (drop at t)) ≡ 0 = rw (records_end 8 at t h) in omega (arith, c.rest, s)
+pub first_free_found : (bs : List Rec) {r : Option ℕ} {n : ℕ} → n ≡ length bs
+    → r ≡ cond (ltb (position_or_len is_free bs) (length bs)) (Some (position_or_len is_free bs)) None → unwrap_or r n ≡ first_free bs
+first_free_found bs {r} {n} l e = rw e (go (ltb (position_or_len is_free bs) (length bs)) refl)
+  where
+    go : (b : Bool) → ltb (position_or_len is_free bs) (length bs) ≡ b → unwrap_or (cond b (Some (position_or_len is_free bs)) None) n ≡ first_free bs
+    go true h = sym (first_free_is bs)
+    go false h = omega (arith, first_free_is bs, ltb-false (position_or_len is_free bs) (length bs) h, prefix_len-le-length (λ b. not (is_free b)) bs)
 
 -- Keeping the octets that pass: those in front are kept, those from i on are to be looked at
 
@@ -80,27 +71,27 @@ module _ {Q : ℕ → Bool} {s₀ s : List ℕ} {kept i : ℕ} (c : Keeping Q s�
       let m : kept + length (replicate (length s - kept) free) ≡ length s = rw length-replicate (omega (arith, c.behind, c.within)) in
       rw (sets-eq (replicate (length s - kept) free) s kept (omega (arith, m)), m, drop-length s, append-nil, k, n, c.same)
 
--- Putting one in: what was carried goes in at i
+-- Putting one in: those from its place on are moved up
 
-pub record Shifting (at v : ℕ) (s₀ s : List ℕ) (carry i : ℕ) : Type 0 where
-  pub same : length s ≡ length s₀
-  pub rest : insert_at i carry s ≡ insert_at at v s₀
-
-pub shifting_start : {at v : ℕ} {s : List ℕ} → Shifting at v s s v at
-shifting_start = record { same = refl; rest = refl }
-
-shifting_step : (s : List ℕ) (carry i : ℕ) → i < length s → insert_at (i + 1) (get_or s i 0) (set s i carry) ≡ insert_at i carry s
+pub put_in_place : (at v : ℕ) (s : List ℕ) → at < length s → set (copy_within s at (length s - 1) (at + 1)) at v ≡ insert_at at v s
 unfolding insert_at
-shifting_step s carry i h =
-    let l : i < suc i = omega arith in
-    rw (length-set s i carry, add-one i, take-suc-set s i carry h, drop-set-lt (suc i) s i carry l, drop-cons s i 0 h) (simp append_assoc)
+put_in_place at v s h =
+    let n : at + 1 + (length s - 1 - at) ≡ length s = omega arith in
+    let k = length s - 1 - at in
+    let y : copy_within s at (length s - 1) (at + 1) ≡ take (at + 1) s ++ take (length s - 1 - at) (drop at s) = rw (n, drop-length, append-nil) in
+    let w : length (take (at + 1) s) ≡ at + 1 = length-take-le (at + 1) s (omega arith) in
+    let t : take at (copy_within s at (length s - 1) (at + 1)) ≡ take at s =
+    ap (take at) y ∙ take-append-le at (take (at + 1) s) (take k (drop at s)) (omega arith) ∙ take-take at (at + 1) s (omega arith) in
+    let d : drop (at + 1) (copy_within s at (length s - 1) (at + 1)) ≡ take k (drop at s) =
+    ap (drop (at + 1)) y ∙ drop_at (take (at + 1) s) (take k (drop at s)) (at + 1) w in
+    let e : length s ≡ length (take at s) + suc k = omega (arith, length-take-le at s (omega arith)) in
+    sets-eq (v ∷ []) (copy_within s at (length s - 1) (at + 1)) at (omega (arith, ap length y, length-append (take (at + 1) s) (take k (drop at s)), w))
+    ∙ rw (t, d)
+    (append_assoc (take at s) (v ∷ []) (take k (drop at s))
+    ∙ sym (ap (λ (m : ℕ). take m (take at s ++ v ∷ drop at s)) e ∙ take-append-add (take at s) (v ∷ drop at s) (suc k)))
 
-module _ {at v : ℕ} {s₀ s : List ℕ} {carry i : ℕ} (c : Shifting at v s₀ s carry i) where
-  pub shifting_more : i < length s → Shifting at v s₀ (set s i carry) (get_or s i 0) (i + 1)
-  shifting_more h = record { same = rw length-set c.same; rest = shifting_step s carry i h ∙ c.rest }
-
-  pub shifting_end : length s ≤ i → s ≡ insert_at at v s₀
-  unfolding insert_at
-  shifting_end h =
-      let e : take (length s) (take i s ++ carry ∷ drop i s) ≡ s = rw (take_all i s h) (take-append_seam s (carry ∷ drop i s)) in
-      sym e ∙ c.rest
+pub put_in_past : (at v : ℕ) (s : List ℕ) → length s ≤ at → s ≡ insert_at at v s
+unfolding insert_at
+put_in_past at v s h =
+    let e : take (length s) (take at s ++ v ∷ drop at s) ≡ s = rw (take_all at s h) (take-append_seam s (v ∷ drop at s)) in
+    sym e

@@ -12,32 +12,25 @@ ghost use Rattle.index_rules.specs.Walks.{Listed, insert_at, used_only, put_in_u
 use layouts::BIND;
 use records::FREE;
 
-// The position that an addition takes; where no record is free, the number of records.
+// The position that an addition takes; where no record is free, the number of records: a position is an octet of the index, and the place that `records`
+// finds for a record to store is none.
 pub fn first_free(binds: &[u8]) -> u8
     requires { length binds.now ≤ full Binds }
     ensures { result ≡ first_free (table Binds binds.now) }
 {
-    let mut position: u8 = 0;
-    let mut at = 0;
-    while BIND <= binds.len() - at {
-        if records::free_at(binds, BIND, at) {
-            return position;
-        }
-        position += 1;
-        at += BIND;
-    }
-    position
+    let all = binds.len() / BIND;
+    let position = binds.chunks_exact(BIND).position(records::is_free);
+    position.unwrap_or(all) as u8
 }
 
 // The entries of used binds move to the front, and 0xFF fills the rest.
 fn keep_used(binds: &[u8], index: &mut [u8])
     ensures { index.new ≡ used_only (table Binds binds.now) index.old }
 {
+    // In place, and so by places: std has no `retain` for a slice.
     let mut kept = 0;
-    let mut i = 0;
-    while i < index.len() {
+    for i in 0..index.len() {
         let position = index[i];
-        i += 1;
         if indexing::is_used(binds, position) {
             index[kept] = position;
             kept += 1;
@@ -51,14 +44,12 @@ fn keep_used(binds: &[u8], index: &mut [u8])
 fn insert_at(index: &mut [u8], at: usize, v: u8)
     ensures { index.new ≡ insert_at at v index.old }
 {
-    let mut carry = v;
-    let mut i = at;
-    while i < index.len() {
-        let old = index[i];
-        index[i] = carry;
-        carry = old;
-        i += 1;
+    let all = index.len();
+    if all <= at {
+        return;
     }
+    index.copy_within(at..all - 1, at + 1);
+    index[at] = v;
 }
 
 // Puts a position in where the rank of its bind belongs, if that is in use.

@@ -2,10 +2,11 @@
 #![tactic(auto)]
 
 ghost use Rattle.std.specs.Prelude.{◌≡◌, ◌+◌, ◌*◌, ◌<◌, ◌≤◌, length};
-ghost use Rattle.writing.specs.Writing.{digit, Wrote, Printed};
-ghost use Rattle.report.specs.Text.{recipient_line, recipient_lines, hex_line, first_line, value_if, answer_text, short_text, Room};
+ghost use Rattle.writing.specs.Writing.{digit, HasRoom, Wrote, Printed};
+ghost use Rattle.report.specs.Text.{recipient_line, recipient_lines, hex_line, first_line, count_of, answer_text, short_text, Room};
 
-use words::Outcome;
+use words::{Accepted, Outcome};
+use writing::Text;
 
 // A recipient's line: device, colon, unit.
 fn recipient_line(high: u8, low: u8, unit: u8) -> [u8; 8]
@@ -24,49 +25,59 @@ fn recipient_line(high: u8, low: u8, unit: u8) -> [u8; 8]
 }
 
 // The line that every answer has: `outcome N count C`.
-fn write_first_line(text: &mut [u8], number: u8, count: u8) -> usize
-    requires { 22 ≤ length text.old }
-    ensures { Wrote (first_line number count) text.old 0 result text.new }
+fn write_first_line(text: &mut Text<'_>, number: u8, count: u8)
+    requires { HasRoom 22 text.old }
+    ensures { Wrote (first_line number count) text.old text.new }
 {
-    let word = writing::write_field(text, 0, b"outcome ", number);
-    let end = writing::write_field(text, word, b" count ", count);
-    writing::write_run(text, end, b"\n")
+    text.write_field(b"outcome ", number);
+    text.write_field(b" count ", count);
+    text.write_run(b"\n");
 }
 
 // The first n recipients of the list, a line each.
-fn write_recipients(text: &mut [u8], at: usize, list: &[u8], n: usize) -> usize
-    requires { (at + 8 * n ≤ length text.old) × (3 * n ≤ length list.now) }
-    ensures { Wrote (recipient_lines n list.now) text.old at result text.new }
+fn write_recipients(text: &mut Text<'_>, list: &[u8], n: usize)
+    requires { HasRoom (8 * n) text.old × (3 * n ≤ length list.now) }
+    ensures { Wrote (recipient_lines n list.now) text.old text.new }
 {
-    let mut next = at;
-    let mut i = 0;
-    while i < n {
-        let from = 3 * i;
-        let line = recipient_line(list[from], list[from + 1], list[from + 2]);
-        next = writing::write_run(text, next, &line);
-        i += 1;
+    for recipient in list[..3 * n].chunks_exact(3) {
+        text.write_run(&recipient_line(recipient[0], recipient[1], recipient[2]));
     }
-    next
 }
 
 // The reply, on one line.
-fn write_reply(text: &mut [u8], at: usize, reply: &[u8]) -> usize
-    requires { at + 2 * length reply.now + 1 ≤ length text.old }
-    ensures { Wrote (hex_line reply.now) text.old at result text.new }
+fn write_reply(text: &mut Text<'_>, reply: &[u8])
+    requires { HasRoom (2 * length reply.now + 1) text.old }
+    ensures { Wrote (hex_line reply.now) text.old text.new }
 {
-    let end = writing::write_hex(text, at, reply);
-    writing::write_run(text, end, b"\n")
+    text.write_hex(reply);
+    text.write_run(b"\n");
 }
 
-// The count or length of the outcome that has this number; another outcome's is not printed.
+// The recipient count that is printed: of outcome 1 alone.
 #[tactic(auto, unfolding(crate::specs::Text::value_if))]
-fn value_if(number: u8, outcome: Outcome) -> usize
-    ensures { result ≡ value_if number outcome }
+fn count_of(outcome: Outcome) -> usize
+    ensures { result ≡ count_of outcome }
 {
-    if outcome.number() != number {
-        return 0;
+    match outcome {
+        Ok(Accepted::Forwarded(n)) => n,
+        _ => 0,
     }
-    outcome.value()
+}
+
+// The whole text for an answer, from the buffer's first place on.
+fn write_text(text: &mut Text<'_>, outcome: Outcome, reply: &[u8], list: &[u8])
+    requires lengths { Room outcome reply.now list.now text.old.octets.now }
+    requires begins { text.old.at ≡ 0 }
+    ensures { Wrote (answer_text outcome reply.now list.now) text.old text.new }
+{
+    write_first_line(text, words::number_of(outcome), count_of(outcome) as u8);
+    match outcome {
+        Ok(Accepted::Done(n)) => write_reply(text, &reply[..n]),
+        Ok(Accepted::Forwarded(n)) => write_recipients(text, list, n),
+        // any other has its first line alone
+        Ok(Accepted::Nobody) => {}
+        Err(_) => {}
+    }
 }
 
 // What `links` prints for an answer. Returns the text's length.
@@ -74,15 +85,9 @@ pub fn write_answer(outcome: Outcome, reply: &[u8], list: &[u8], text: &mut [u8]
     requires { Room outcome reply.now list.now text.old }
     ensures { Printed (answer_text outcome reply.now list.now) text.old result text.new }
 {
-    let number = outcome.number();
-    let count = value_if(1, outcome);
-    let next = write_first_line(text, number, count as u8);
-    if number == 0 {
-        let n = value_if(0, outcome);
-        write_reply(text, next, &reply[..n])
-    } else {
-        write_recipients(text, next, list, count)
-    }
+    let mut written = Text::over(text);
+    write_text(&mut written, outcome, reply, list);
+    written.length()
 }
 
 // What `links` prints for input that is too short. Returns the text's length.
@@ -90,5 +95,7 @@ pub fn write_short(text: &mut [u8]) -> usize
     requires { 12 ≤ length text.old }
     ensures { Printed short_text text.old result text.new }
 {
-    writing::write_run(text, 0, b"short input\n")
+    let mut written = Text::over(text);
+    written.write_run(b"short input\n");
+    written.length()
 }

@@ -1,7 +1,8 @@
 -- Condition 3: from free tables of sizes allowed, after any run of calls, refused ones included, a well-formed request to the bind address goes to
 -- exactly the units linked to its sender by history, and Get Group Info counts the members that stand by history.
+use Rattle.std.specs.Prelude.{Some}
 use Rattle.words.specs.Basics.{◌≡◌, ap, ◌∙◌, true, List, ℕ, ◌+◌}
-use Rattle.rules.specs.Types.{Fields, BindAddress, GetGroupInfo, Is, Devices, Binds, Members}
+use Rattle.rules.specs.Types.{Fields, BindAddress, GetGroupInfo, Devices, Binds, Members}
 use Rattle.rules.specs.Lists.{ask, ◌&◌}
 use Rattle.rules.specs.Octets.{octet, word, octet_string}
 use Rattle.rules.specs.Frame.{Lent, tables}
@@ -28,7 +29,7 @@ module _ (L₀ L : Lent) (h : List Event) (k : Held L₀ L h) where
       rw (same-room k r l ∙ e, k.sane.sound, q.length, q.told_length, q.type, is, q.request, q.to_bind_address)
       (ap (λ us. forwarded us L r l) (recipients-only L₀ L h k m q.octets us x))
 
-  counted-right : (m r l : List ℕ) → octet_string m ≡ true → command (fields m) ≡ Is GetGroupInfo → granted (sends m r l) (said L (sends m r l)) ≡ true
+  counted-right : (m r l : List ℕ) → octet_string m ≡ true → command (fields m) ≡ Some GetGroupInfo → granted (sends m r l) (said L (sends m r l)) ≡ true
       → member_count (said L (sends m r l)) ≡ counted h (group_said (payload m))
   unfolding member_count said counted Agree
   counted-right m r l o c g =

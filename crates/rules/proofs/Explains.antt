@@ -1,10 +1,11 @@
 -- A reason is given if and only if Add Bind is answered 0x02.
+use Rattle.std.specs.Prelude.{None, Some}
 use Rattle.words.specs.Basics.{◌≡◌, refl, sym, ap, ◌∙◌, Bool, true, false, cond, false≢true, List, ℕ, eqb, length}
 use Rattle.words.specs.Names.{ok, not_authorized, invalid_argument, not_enough_resources}
 use Rattle.words.specs.Outcomes.{number_of}
 use Rattle.words.specs.Reasons.{faultless}
-use Rattle.rules.specs.Types.{DeviceAddress, Code, NoFault, Command, AddBind, RemoveBinds, StartSession, EndSession, GetEntries}
-use Rattle.rules.specs.Types.{CreateGroup, DeleteGroup, AddToGroup, RemoveFromGroup, GetGroupInfo, Fields, Is, Devices, Binds}
+use Rattle.rules.specs.Types.{DeviceAddress, Code, Command, AddBind, RemoveBinds, StartSession, EndSession, GetEntries}
+use Rattle.rules.specs.Types.{CreateGroup, DeleteGroup, AddToGroup, RemoveFromGroup, GetGroupInfo, Fields, Devices, Binds}
 use Rattle.rules.specs.Lists.{ask, ◌&◌}
 use Rattle.rules.specs.Octets.{octets, over}
 use Rattle.rules.specs.Tables.{some_free}
@@ -43,7 +44,7 @@ told-two : (T : Tables) (k : Command) (p : List ℕ) (c : Code) → faultless (e
 unfolding explained faultless
 told-two T k p c h = step (two c) refl h
   where
-    step : (b : Bool) → two c ≡ b → faultless (cond b ((row k).fault T p) NoFault) ≡ false → (b ≡ true) × (faultless ((row k).fault T p) ≡ false)
+    step : (b : Bool) → two c ≡ b → faultless (cond b ((row k).fault T p) None) ≡ false → (b ≡ true) × (faultless ((row k).fault T p) ≡ false)
     step true e h = (refl, h)
     step false e h = absurd (false≢true (sym h))
 
@@ -69,7 +70,7 @@ fault-told T s p k z h = rw (h, z) (two-fault T s p (rw z at h))
 
 -- Of a message
 
-faultless-none : faultless NoFault ≡ true
+faultless-none : faultless None ≡ true
 unfolding faultless
 faultless-none = refl
 
@@ -106,5 +107,5 @@ explains L m r l = by (message L m r l) refl (answers L m r l)
               ap faultless reason ∙ fault-told (tables L) (fields m).source (payload m) k z (sym refused ∙ g);
           only = λ h.
               let t = told-two (tables L) k (payload m) v (sym (ap faultless reason) ∙ h) in
-              (c ∙ ap Is (is_add_bind (tables L) k (payload m) t.1), refused ∙ t.0);
+              (c ∙ ap Some (is_add_bind (tables L) k (payload m) t.1), refused ∙ t.0);
         }

@@ -26,7 +26,7 @@ use Rattle.rules.proofs.Distinct.{lone}
 use Rattle.rules.proofs.Fresh.{new_low, new_high, new_fresh}
 use Rattle.rules.proofs.Judged.{invalid, full, Passed, passed}
 use Rattle.rules.proofs.Faults.{meets, by_fields, fits_all}
-use Rattle.rules.proofs.Kept.{Sane, InOrder, Ok, order-none, order-wipe, sound-at, whole-at, bind-kept, member_kept, session_kept, ok-nothing}
+use Rattle.rules.proofs.Kept.{Sane, InOrder, Allowed, order-none, order-wipe, sound-at, whole-at, bind-kept, member_kept, session_kept, ok-nothing}
 use Rattle.rules.proofs.Standing.{Says, says_nothing, says_stored, says_withdrawn}
 use Rattle.rules.proofs.Stored.{Stored, bind_stored, member_stored, named_small, group_stored, group_meets, device_high, session_stored, session_key}
 use Rattle.rules.proofs.Stored.{session_device_lem, source-flag}
@@ -79,7 +79,7 @@ with_rights L d S h = step (eqb d.0 0) refl h
 -- where no device and no group goes
 pub ok-adding : (L : Lent) (x : Effect) → ((k : Kind) → InOrder k L (x k)) → ((r : Rec) → spares (x Devices) r ≡ true)
     → ((r : Rec) → spares (x Groups) r ≡ true)
-    → Ok L x
+    → Allowed L x
 unfolding fits
 ok-adding L x o d g = record {
   order = o;
@@ -123,9 +123,9 @@ module _ (T : Tables) {x : Effect} where
   unfolding has_page
   told-closing {e} t = closing-all (λ y. Told y e) t (told_apart Sessions _ refl t)
 
-  pub ok-closing : {L : Lent} → Ok L x → Ok L (closing T x)
+  pub ok-closing : {L : Lent} → Allowed L x → Allowed L (closing T x)
   unfolding also spares
-  ok-closing {L} o = closing-all (Ok L) o (record {
+  ok-closing {L} o = closing-all (Allowed L) o (record {
     order = orders_wipe Sessions L _ x o.order;
     binds = o.binds;
     members = o.members;
@@ -136,25 +136,25 @@ module _ (T : Tables) {x : Effect} where
 
 -- what is known of a command answered 0x00
 pub record Granted (L : Lent) (s : DeviceAddress) (k : Command) (p : List ℕ) : Type 0 where
-  pub ok : Ok L ((row k).effect (tables L) s p)
+  pub ok : Allowed L ((row k).effect (tables L) s p)
   pub told : Told ((row k).effect (tables L) s p) (lines k p)
 
 module _ (L : Lent) (p : List ℕ) (o : octet_string p ≡ true) where
-  ok-binds : (c : Change) → InOrder Binds L c → Ok L (only Binds c)
+  ok-binds : (c : Change) → InOrder Binds L c → Allowed L (only Binds c)
   unfolding spares nothing also
   ok-binds c i = ok-adding L (only Binds c) (orders_only Binds L c i) (λ r. refl) (λ r. refl)
 
-  ok-members : (c : Change) → InOrder Members L c → Ok L (only Members c)
+  ok-members : (c : Change) → InOrder Members L c → Allowed L (only Members c)
   unfolding spares nothing also
   ok-members c i = ok-adding L (only Members c) (orders_only Members L c i) (λ r. refl) (λ r. refl)
 
-  ok-sessions : (c : Change) → InOrder Sessions L c → Ok L (only Sessions c)
+  ok-sessions : (c : Change) → InOrder Sessions L c → Allowed L (only Sessions c)
   unfolding spares nothing also
   ok-sessions c i = ok-adding L (only Sessions c) (orders_only Sessions L c i) (λ r. refl) (λ r. refl)
 
   -- a session that is opened takes the first free record, where its device has none
   ok-start : (s : DeviceAddress) → Sane L → has_rights (tables L Devices) s ≡ true → opening s (tables L Sessions) ≡ ok
-      → Ok L ((row StartSession).effect (tables L) s p)
+      → Allowed L ((row StartSession).effect (tables L) s p)
   unfolding opening in_session addressed fits session_fits
   ok-start s S a v = step (in_session (tables L Sessions) s) refl (pass full v).0
     where
@@ -164,7 +164,7 @@ module _ (L : Lent) (p : List ℕ) (o : octet_string p ≡ true) where
           order-store Sessions L (session_record s) (octets s.0) (session_key s) f (session_stored s w.1) (rw (session_device_lem s) (w.0)) e
 
       step : (b : Bool) → in_session (tables L Sessions) s ≡ b → (b || some_free (tables L Sessions)) ≡ true
-          → Ok L (cond b nothing (only Sessions (store (session_record s))))
+          → Allowed L (cond b nothing (only Sessions (store (session_record s))))
       step true e f = ok-nothing L
       step false e f = ok-sessions _ (new e f)
 
@@ -173,7 +173,7 @@ module _ (L : Lent) (p : List ℕ) (o : octet_string p ≡ true) where
   few-groups S = omega (arith, length-records 16 L.groups, leb-true (length L.groups) (16 * 16) (split (whole-at L S.sound Groups)).1)
 
   ok_create : Sane L → length p ≡ 1 + octet 0 p → creation p (tables L Groups) ≡ ok
-      → Ok L (only Groups (store (group_record (new_group (tables L Groups)) p)))
+      → Allowed L (only Groups (store (group_record (new_group (tables L Groups)) p)))
   unfolding creation spares nothing also fits group_record octets group_exists addressed
   ok_create S long v =
       let a = pass full v in
@@ -201,7 +201,7 @@ module _ (L : Lent) (p : List ℕ) (o : octet_string p ≡ true) where
   abbrev deletes : Effect
   deletes = also Groups (wipe (addressed g.0)) (also Members (wipe (in_group g)) (only Binds (wipe (to_this_group g))))
 
-  ok_delete : Ok L deletes
+  ok_delete : Allowed L deletes
   unfolding nothing also spares fits Storable
   ok_delete = record {
     order = orders_wipe Groups L _ _ (orders_wipe Members L _ _ (orders_only Binds L _ (order-wipe Binds L _)));

@@ -1,4 +1,5 @@
 -- The host calls: admit and release, where they do something, change the tables in order and as the history's entries say.
+use Rattle.std.specs.Prelude.{Ok, Err}
 use Rattle.words.specs.Basics.{◌≡◌, refl, ◌∙◌, Bool, true, false, cond, not, ◌||◌, List, ℕ, ◌<◌, arith, eqb, not-true, eq-eqb}
 use Rattle.words.specs.Outcomes.{number_of, value_of}
 use Rattle.rules.specs.Types.{DeviceAddress, Devices, Binds, Members, Sessions, Outcome, Done, Unsound, OutOfRange, AlreadyAdmitted, NoFreeRecord}
@@ -16,7 +17,7 @@ use Rattle.rules.specs.History.{Entries, has_page, admits, releases, entries}
 use Rattle.rules.proofs.Lists.{never, or_parts, join}
 use Rattle.rules.proofs.Words.{shaped, matches-word, addressed-word, to_device_lem, apart}
 use Rattle.rules.proofs.Changes.{Storable, spares}
-use Rattle.rules.proofs.Kept.{Sane, Ok, order-wipe, bind-kept, member_kept, session_kept}
+use Rattle.rules.proofs.Kept.{Sane, Allowed, order-wipe, bind-kept, member_kept, session_kept}
 use Rattle.rules.proofs.Standing.{says_added, says_withdrawn}
 use Rattle.rules.proofs.Stored.{device_stored, device_meets, device-fields}
 use Rattle.rules.proofs.Granted.{admitted_small, orders_only, orders_wipe, ok-adding, order-store, ok-closing, Told, told-nothing, told-also}
@@ -24,7 +25,7 @@ use Rattle.rules.proofs.Granted.{told_apart, told-closing}
 
 -- the outcome of a host call: 0, with this change in order and as these entries say, or a refusal
 pub data Hosted (L : Lent) (x : Effect) (e : Entries) : Outcome → Type 0 where
-  granting : Ok L x → Told x e → Hosted L x e (Done 0)
+  granting : Allowed L x → Told x e → Hosted L x e (Ok (Done 0))
   refusing : {o : Outcome} → eqb (number_of o) 0 ≡ false → Hosted L x e o
 
 module _ {L : Lent} {x : Effect} {e : Entries} where
@@ -44,7 +45,7 @@ module _ (L : Lent) (d : DeviceAddress) (a : ℕ) (us : List ℕ) where
   told-admit = told-also Devices says_added told-nothing
 
   ok-admit : shaped units_length us ≡ true → device_in_range d a us ≡ true → not (admitted (tables L Devices) d) ≡ true → some_free (tables L Devices) ≡ true
-      → Ok L (admitting d a us)
+      → Allowed L (admitting d a us)
   unfolding admitting admitted addressed fits spares nothing also device_record octets
   ok-admit s h n f =
       let i = device-fields d a us h in
@@ -55,7 +56,7 @@ module _ (L : Lent) (d : DeviceAddress) (a : ℕ) (us : List ℕ) where
   pub hosted-admit : shaped units_length us ≡ true → Hosted L (admitting d a us) (entries (admits d a us)) (admit L d a us).outcome
   unfolding settled admit admission
   hosted-admit s =
-      hosted-ask Unsound refl (λ t. hosted-ask OutOfRange refl (λ h. hosted-ask AlreadyAdmitted refl (λ n. hosted-ask NoFreeRecord refl (λ f.
+      hosted-ask (Err Unsound) refl (λ t. hosted-ask (Err OutOfRange) refl (λ h. hosted-ask (Err AlreadyAdmitted) refl (λ n. hosted-ask (Err NoFreeRecord) refl (λ f.
       granting (ok-admit s h n f) told-admit))))
 
 -- Release
@@ -77,7 +78,7 @@ module _ (L : Lent) (d : DeviceAddress) (small : d.0 < 32768) where
       (told-also Members (says_withdrawn (λ r s. matches-word (size Members) 2 d.0 r (omega arith) s))
       (told_apart Sessions _ refl (told-also Binds (says_withdrawn names_device_lem) told-nothing)))
 
-  ok-taking : Ok L (taking d)
+  ok-taking : Allowed L (taking d)
   unfolding taking names_device nothing also spares fits Storable
   ok-taking = record {
     order = orders_wipe Devices L _ _ (orders_wipe Members L _ _ (orders_wipe Sessions L _ _ (orders_only Binds L _ (order-wipe Binds L _))));
@@ -99,7 +100,7 @@ module _ (L : Lent) (d : DeviceAddress) (small : d.0 < 32768) where
 pub hosted-release : (L : Lent) (d : DeviceAddress) → Sane L → Hosted L (releasing (tables L) d) (entries (releases d)) (release L d).outcome
 unfolding settled release releasing
 hosted-release L d S =
-    hosted-ask Unsound refl (λ s. hosted-ask NotAdmitted refl (λ a.
+    hosted-ask (Err Unsound) refl (λ s. hosted-ask (Err NotAdmitted) refl (λ a.
     let l = admitted_small L d S a in
     granting (ok-closing (tables L) (ok-taking L d l)) (told-closing (tables L) (told-taking L d l))))
 
@@ -113,8 +114,8 @@ value_ask false o rest h g = h
 pub value_admit : (L : Lent) (d : DeviceAddress) (a : ℕ) (us : List ℕ) → value_of (admit L d a us).outcome ≡ 0
 unfolding settled admit admission
 value_admit L d a us =
-    value_ask _ Unsound _ refl (value_ask _ OutOfRange _ refl (value_ask _ AlreadyAdmitted _ refl (value_ask _ NoFreeRecord (Done 0) refl refl)))
+    value_ask _ (Err Unsound) _ refl (value_ask _ (Err OutOfRange) _ refl (value_ask _ (Err AlreadyAdmitted) _ refl (value_ask _ (Err NoFreeRecord) (Ok (Done 0)) refl refl)))
 
 pub value_release : (L : Lent) (d : DeviceAddress) → value_of (release L d).outcome ≡ 0
 unfolding settled release
-value_release L d = value_ask _ Unsound _ refl (value_ask _ NotAdmitted (Done 0) refl refl)
+value_release L d = value_ask _ (Err Unsound) _ refl (value_ask _ (Err NotAdmitted) (Ok (Done 0)) refl refl)

@@ -47,7 +47,7 @@ Keeps k L x =
     → fits k (change (x Devices) (tables L Devices)) (change (x Groups) (tables L Groups)) r ≡ true
 
 -- .. of every table, and besides of the three whose records name others
-pub record Ok (L : Lent) (x : Effect) : Type 0 where
+pub record Allowed (L : Lent) (x : Effect) : Type 0 where
   pub order : (k : Kind) → InOrder k L (x k)
   pub binds : Keeps Binds L x
   pub members : Keeps Members L x
@@ -71,7 +71,7 @@ pub whole-at : (L : Lent) → sound L ≡ true → (k : Kind) → whole_records 
 unfolding sound_table
 whole-at L s k = (split (split (sound-at L s k)).0).0
 
-module _ (L : Lent) (x : Effect) (o : Ok L x) (S : Sane L) where
+module _ (L : Lent) (x : Effect) (o : Allowed L x) (S : Sane L) where
   pub table-changed : (k : Kind) → tables (changed x L) k ≡ change (x k) (tables L k)
   table-changed k =
       ap (records (size k)) (lent-changed x L k)
@@ -193,6 +193,6 @@ pub session_kept : (c : Change) (ds : List Rec) (r : Rec) → Storable c ds → 
 unfolding session_fits
 session_kept c ds r f s h = device-kept c ds (session_device r) f s h
 
-pub ok-nothing : (L : Lent) → Ok L nothing
+pub ok-nothing : (L : Lent) → Allowed L nothing
 unfolding nothing spares change
 ok-nothing L = record { order = λ k. order-none k L; binds = λ r s w h. h; members = λ r s w h. h; sessions = λ r s w h. h }

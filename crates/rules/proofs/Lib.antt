@@ -31,6 +31,7 @@ pub mod Sheet
 pub mod Seen
 pub mod Stands
 pub mod RoundTrip
+pub mod ReadAs
 pub mod Replied
 pub mod Whole
 pub mod Precedence

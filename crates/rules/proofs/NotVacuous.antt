@@ -1,8 +1,9 @@
 -- Condition 3 speaks of something: the run of docs/HISTORY.md, with both binds and both members in it, meets all that it asks, and this is what it then
 -- says of that run; and so of what is read back. A condition that no run could meet, or a request that nobody could send, would have no proof here.
+use Rattle.std.specs.Prelude.{Some, Ok}
 use Rattle.words.specs.Basics.{◌≡◌, refl, sym, Bool, true, false, not, ◌&&◌, ◌||◌, List, [], ◌∷◌, ◌++◌, flat_map, ℕ, arith, eqb, ne_eqb, eqb-true, eqb-false}
 use Rattle.words.specs.Names.{device}
-use Rattle.rules.specs.Types.{StartSession, GetEntries, Filter, Index, Part, Source, Is, GetGroupInfo, Forwarded}
+use Rattle.rules.specs.Types.{StartSession, GetEntries, Filter, Index, Part, Source, GetGroupInfo, Forwarded}
 use Rattle.rules.specs.Lists.{all}
 use Rattle.rules.specs.Message.{fields}
 use Rattle.rules.specs.Payloads.{command}
@@ -51,7 +52,7 @@ pub record Meets : Type 0 where
   pub exactly : Exactly events (fields asked) both
   -- of `counts`
   pub info-octets : octet_string info ≡ true
-  pub asks : command (fields info) ≡ Is GetGroupInfo
+  pub asks : command (fields info) ≡ Some GetGroupInfo
   pub granted : granted (sends info reply list) (said (after start calls) (sends info reply list)) ≡ true
 
 -- 4:02 by the bind A and by the group of B, 5:01 by the group alone; 3:01, the sender, by none
@@ -83,7 +84,7 @@ meets = record {
 -- What condition 3 then says
 
 -- the request goes to 4:02 and 5:01, no octet of the tables and of the reply changes, and of the list only six
-pub delivers : message (after start calls) asked reply list ≡ answer (Forwarded 2) (after start calls) reply (lending 12 (run 6 0x00_04_02_00_05_01))
+pub delivers : message (after start calls) asked reply list ≡ answer (Ok (Forwarded 2)) (after start calls) reply (lending 12 (run 6 0x00_04_02_00_05_01))
 unfolding flat_map forwarded over unit_octets three_octets
 delivers = (condition3 start meets.free calls meets.octets).delivered asked reply list both meets.request meets.room meets.exactly
 
@@ -110,7 +111,7 @@ linked-one s u n v = step (eqb v u) refl
 
 -- then that unit is listed, and nothing else changes
 delivers_one : (cs : List Call) (m : List ℕ) (u : ℕ) → MeetsOne cs m u
-    → message (after start cs) m reply list ≡ answer (Forwarded 1) (after start cs) reply (over (three_octets u) list)
+    → message (after start cs) m reply list ≡ answer (Ok (Forwarded 1)) (after start cs) reply (over (three_octets u) list)
 unfolding flat_map forwarded unit_octets three_octets
 delivers_one cs m u w = (condition3 start meets.free cs w.octets).delivered m reply list (u ∷ []) w.request meets.room w.exactly
 
@@ -136,7 +137,7 @@ meets_with_gaps = record {
 
 -- the request goes to 3:01
 pub delivers_with_gaps : message (after start with_valance) from_nine reply list
-    ≡ answer (Forwarded 1) (after start with_valance) reply (lending 12 (run 3 0x00_03_01))
+    ≡ answer (Ok (Forwarded 1)) (after start with_valance) reply (lending 12 (run 3 0x00_03_01))
 unfolding over three_octets
 delivers_with_gaps = delivers_one with_valance from_nine 0x00_03_01 meets_with_gaps
 
@@ -163,7 +164,7 @@ meets_with_any = record {
 
 -- the request goes to 3:01
 pub delivers_with_any : message (after start with_scene) elsewhere reply list
-    ≡ answer (Forwarded 1) (after start with_scene) reply (lending 12 (run 3 0x00_03_01))
+    ≡ answer (Ok (Forwarded 1)) (after start with_scene) reply (lending 12 (run 3 0x00_03_01))
 unfolding over three_octets
 delivers_with_any = delivers_one with_scene elsewhere 0x00_03_01 meets_with_any
 
@@ -192,12 +193,12 @@ pub record MeetsRead (f : Filter) (m : List ℕ) (es : List Rec) : Type 0 where
   pub later : all octets_only meanwhile ≡ true
   pub no_start : NoStart (fields m).source meanwhile
   pub message : octet_string m ≡ true
-  pub asks : command (fields m) ≡ Is (GetEntries f)
+  pub asks : command (fields m) ≡ Some (GetEntries f)
   pub granted : granted (sends m reply list) (said (after start (meanwhile ++ within_session)) (sends m reply list)) ≡ true
   pub says : entries_read (said (after start (meanwhile ++ within_session)) (sends m reply list)) ≡ es
 
 -- a request to the bind address is no Start
-not_start : command (fields asked) ≡ Is StartSession → ⊥
+not_start : command (fields asked) ≡ Some StartSession → ⊥
 unfolding whole
 not_start e = let z : ◌≡◌ {A = ℕ} 0 1 = cc in absurd (omega arith)
 
@@ -228,7 +229,7 @@ reads_by_source = record {
 }
 
 -- .. and Start counts two
-pub starts-two : (octet_string start_session_rows ≡ true) × (command (fields start_session_rows) ≡ Is StartSession)
+pub starts-two : (octet_string start_session_rows ≡ true) × (command (fields start_session_rows) ≡ Some StartSession)
     × (granted (sends start_session_rows reply list) (said (after start calls) (sends start_session_rows reply list)) ≡ true)
     × (bind_count (said (after start calls) (sends start_session_rows reply list)) ≡ 2)
 unfolding whole calls

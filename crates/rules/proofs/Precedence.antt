@@ -1,17 +1,17 @@
 -- The order of outcomes (document 01, Outcomes): the checks of each call as the paper lists them, and that the first which fails gives the outcome,
 -- whatever is wrong behind it. The rows with several faults (`order` of `RowsOfRefusals`, those of `RowsOfCalls`, `not_carried`) are inputs that show it.
+use Rattle.std.specs.Prelude.{Option, None, Some, Result, Err}
 use Rattle.words.specs.Basics.{◌≡◌, refl, sym, Bool, true, false, not, false≢true, List, [], ◌∷◌, ◌++◌, ℕ, ◌*◌, eqb, length}
 use Rattle.words.specs.Names.{no_fields}
-use Rattle.words.specs.declared.Decoded.TheVariants.{Is, NotServed}
 use Rattle.words.specs.declared.Destination.{Destination}
-use Rattle.words.specs.declared.Outcome.TheVariants.{NotServed as Eighteen}
-use Rattle.rules.specs.Types.{DeviceAddress, Fields, Concentrator, BindAddress, Unit as One, Group, Decoded, Devices, Groups, Outcome, WrongLength}
+use Rattle.rules.specs.Types.{NotServed, Refusal, Command}
+use Rattle.rules.specs.Types.{DeviceAddress, Fields, Concentrator, BindAddress, Unit as One, Group, Devices, Groups, Outcome, WrongLength}
 use Rattle.rules.specs.Types.{WrongDataLength, WrongType, NoSource, NoDestination, ResponseToMany, Unsound, NoRoom, NoCopy, OutOfRange, AlreadyAdmitted}
-use Rattle.rules.specs.Types.{NoFreeRecord, NotAdmitted, Way, Refuse, Reading}
+use Rattle.rules.specs.Types.{NoFreeRecord, NotAdmitted, Way}
 use Rattle.rules.specs.Lists.{ask, ◌&◌}
 use Rattle.rules.specs.Tables.{Rec, some_free}
 use Rattle.rules.specs.Frame.{Lent, tables}
-use Rattle.rules.specs.Message.{fields, destination, response, length_fits, data_length_fits, type_fits, reads, reading_of, reading}
+use Rattle.rules.specs.Message.{fields, destination, response, length_fits, data_length_fits, type_fits, reads, Reading, reading_of, reading}
 use Rattle.rules.specs.Exists.{admitted, unit_exists, group_exists}
 use Rattle.rules.specs.Sound.{device_in_range, sound}
 use Rattle.rules.specs.Payloads.{command}
@@ -37,50 +37,50 @@ FirstOf (c ∷ cs) o = (c.passes ≡ false → o ≡ c.outcome) × (c.passes ≡
 
 -- "10, 11, 12"
 abbrev pub reading_checks : List ℕ → List Check
-reading_checks m = check (length_fits m) WrongLength ∷ check (data_length_fits m) WrongDataLength ∷ check (type_fits m) WrongType ∷ []
+reading_checks m = check (length_fits m) (Err WrongLength) ∷ check (data_length_fits m) (Err WrongDataLength) ∷ check (type_fits m) (Err WrongType) ∷ []
 
-abbrev pub is_command : Decoded → Bool
-is_command (Is k) = true
-is_command NotServed = false
+abbrev pub is_command : Option Command → Bool
+is_command (Some k) = true
+is_command None = false
 
 -- "then 18 for D'0:U'0 or 14 for the rest"
 abbrev pub destination_checks : List Rec → List Rec → Fields → Destination → List Check
-destination_checks ds gs f Concentrator = check (is_command (command f)) Eighteen ∷ []
+destination_checks ds gs f Concentrator = check (is_command (command f)) (Err NotServed) ∷ []
 destination_checks ds gs f BindAddress = []
-destination_checks ds gs f (One d u) = check (unit_exists ds d u) NoDestination ∷ []
-destination_checks ds gs f (Group g) = check (group_exists gs g) NoDestination ∷ []
+destination_checks ds gs f (One d u) = check (unit_exists ds d u) (Err NoDestination) ∷ []
+destination_checks ds gs f (Group g) = check (group_exists gs g) (Err NoDestination) ∷ []
 
 -- "Order for a message: 17, 16, 10, 11, 12, 13, 15, then .."
 abbrev pub message_checks : Lent → List ℕ → List ℕ → List ℕ → List Check
 message_checks L m r l =
     let f : Fields = fields m in
-    check (roomy L.binds L.members r l) NoRoom
-    ∷ check (sound L) Unsound
+    check (roomy L.binds L.members r l) (Err NoRoom)
+    ∷ check (sound L) (Err Unsound)
     ∷ reading_checks m
-    ++ check (unit_exists (tables L Devices) f.source f.source_unit) NoSource
-    ∷ check (not (response f & to_many (destination f))) ResponseToMany
+    ++ check (unit_exists (tables L Devices) f.source f.source_unit) (Err NoSource)
+    ∷ check (not (response f & to_many (destination f))) (Err ResponseToMany)
     ∷ destination_checks (tables L Devices) (tables L Groups) f (destination f)
 
 -- "Admit: 16, 20, 21, 22, else 0."
 abbrev pub admit_checks : Lent → DeviceAddress → ℕ → List ℕ → List Check
 admit_checks L d rights us =
-    check (sound L) Unsound
-    ∷ check (device_in_range d rights us) OutOfRange
-    ∷ check (not (admitted (tables L Devices) d)) AlreadyAdmitted
-    ∷ check (some_free (tables L Devices)) NoFreeRecord
+    check (sound L) (Err Unsound)
+    ∷ check (device_in_range d rights us) (Err OutOfRange)
+    ∷ check (not (admitted (tables L Devices) d)) (Err AlreadyAdmitted)
+    ∷ check (some_free (tables L Devices)) (Err NoFreeRecord)
     ∷ []
 
 -- carrying over: "16 .., then 17" (document 02, request 2)
 abbrev pub carry_checks : List ℕ → List ℕ → List Check
-carry_checks old new = check (old_sound old) Unsound ∷ check (eqb (length new) (times * length old)) NoRoom ∷ []
+carry_checks old new = check (old_sound old) (Err Unsound) ∷ check (eqb (length new) (times * length old)) (Err NoRoom) ∷ []
 
 -- "Release: 16, 23, else 0."
 abbrev pub release_checks : Lent → DeviceAddress → List Check
-release_checks L d = check (sound L) Unsound ∷ check (admitted (tables L Devices) d) NotAdmitted ∷ []
+release_checks L d = check (sound L) (Err Unsound) ∷ check (admitted (tables L Devices) d) (Err NotAdmitted) ∷ []
 
 -- "Copy: 10, 11, 12, 19, else 0."
 abbrev pub copy_checks : List ℕ → List ℕ → DeviceAddress → ℕ → List Check
-copy_checks m room d u = reading_checks m ++ check (copy_fits m room d u) NoCopy ∷ []
+copy_checks m room d u = reading_checks m ++ check (copy_fits m room d u) (Err NoCopy) ∷ []
 
 -- The theorems
 
@@ -95,28 +95,30 @@ module _ {A : Type 0} (outcome : A → Outcome) where
   first_of last = tt
   first_of (next f g) = (f, λ h. first_of (g h))
 
-  module _ (refuse : Outcome → A) (told : (o : Outcome) → outcome (refuse o) ≡ o) where
-    one_more : {cs : List Check} {rest : A} (b : Bool) (o : Outcome) → First outcome rest cs → First outcome (ask b (refuse o) rest) (check b o ∷ cs)
+  module _ (refuse : Refusal → A) (told : (why : Refusal) → outcome (refuse why) ≡ Err why) where
+    one_more : {cs : List Check} {rest : A} (b : Bool) (why : Refusal) → First outcome rest cs
+        → First outcome (ask b (refuse why) rest) (check b (Err why) ∷ cs)
     unfolding ask
-    one_more true o f = next (λ h. absurd (false≢true (sym h))) (λ h. f)
-    one_more false o f = next (λ h. told o) (λ h. absurd (false≢true h))
+    one_more true why f = next (λ h. absurd (false≢true (sym h))) (λ h. f)
+    one_more false why f = next (λ h. told why) (λ h. absurd (false≢true h))
 
 module _ (L : Lent) (m r l : List ℕ) where
   -- what a way comes to
-  abbrev went : Way → Outcome
+  abbrev went : Result Way Refusal → Outcome
   went w = (follow w L m r l).outcome
 
-  refused : (o : Outcome) → went (Refuse o) ≡ o
+  refused : (why : Refusal) → went (Err why) ≡ Err why
   unfolding follow
-  refused o = refl
+  refused why = refl
 
-  before : {cs : List Check} {rest : Way} (b : Bool) (o : Outcome) → First went rest cs → First went (ask b (Refuse o) rest) (check b o ∷ cs)
-  before = one_more went Refuse refused
+  before : {cs : List Check} {rest : Result Way Refusal} (b : Bool) (why : Refusal) → First went rest cs
+      → First went (ask b (Err why) rest) (check b (Err why) ∷ cs)
+  before = one_more went Err refused
 
-  asking-order : (d : Decoded) → First went (asking d) (check (is_command d) Eighteen ∷ [])
+  asking-order : (d : Option Command) → First went (asking d) (check (is_command d) (Err NotServed) ∷ [])
   unfolding asking follow
-  asking-order (Is k) = next (λ h. absurd (false≢true (sym h))) (λ h. last)
-  asking-order NotServed = next (λ h. refl) (λ h. last)
+  asking-order (Some k) = next (λ h. absurd (false≢true (sym h))) (λ h. last)
+  asking-order None = next (λ h. refl) (λ h. last)
 
   destination-order : (to : Destination)
       → First went (way_to (tables L Devices) (tables L Groups) to (fields m)) (destination_checks (tables L Devices) (tables L Groups) (fields m) to)
@@ -134,8 +136,8 @@ module _ (L : Lent) (m r l : List ℕ) where
 
 -- of the host's calls, which answer an outcome
 
-hosted : {cs : List Check} {rest : Outcome} (b : Bool) (o : Outcome) → First (λ o. o) rest cs → First (λ o. o) (ask b o rest) (check b o ∷ cs)
-hosted = one_more (λ o. o) (λ o. o) (λ o. refl)
+hosted : {cs : List Check} {rest : Outcome} (b : Bool) (why : Refusal) → First (λ o. o) rest cs → First (λ o. o) (ask b (Err why) rest) (check b (Err why) ∷ cs)
+hosted = one_more (λ o. o) Err (λ why. refl)
 
 pub admit-order : (L : Lent) (d : DeviceAddress) (rights : ℕ) (us : List ℕ) → FirstOf (admit_checks L d rights us) (admit L d rights us).outcome
 unfolding admit admission settled
@@ -159,9 +161,9 @@ read-order m = first_of outcome (read _ WrongLength (read _ WrongDataLength (rea
     outcome : Reading → Outcome
     outcome x = x.outcome
 
-    read : {cs : List Check} {rest : Reading} (b : Bool) (o : Outcome) → First outcome rest cs
-        → First outcome (ask b (reading_of o no_fields) rest) (check b o ∷ cs)
-    read = one_more outcome (λ o. reading_of o no_fields) (λ o. refl)
+    read : {cs : List Check} {rest : Reading} (b : Bool) (why : Refusal) → First outcome rest cs
+        → First outcome (ask b (reading_of (Err why) no_fields) rest) (check b (Err why) ∷ cs)
+    read = one_more outcome (λ why. reading_of (Err why) no_fields) (λ why. refl)
 
 pub copy-order : (m room : List ℕ) (d : DeviceAddress) (u : ℕ) → FirstOf (copy_checks m room d u) (copy m room d u).outcome
 unfolding copy reads
@@ -170,6 +172,6 @@ copy-order m room d u = first_of outcome (copied _ WrongLength (copied _ WrongDa
     outcome : CopyAnswer → Outcome
     outcome x = x.outcome
 
-    copied : {cs : List Check} {rest : CopyAnswer} (b : Bool) (o : Outcome) → First outcome rest cs
-        → First outcome (ask b (copy_answer o room) rest) (check b o ∷ cs)
-    copied = one_more outcome (λ o. copy_answer o room) (λ o. refl)
+    copied : {cs : List Check} {rest : CopyAnswer} (b : Bool) (why : Refusal) → First outcome rest cs
+        → First outcome (ask b (copy_answer (Err why) room) rest) (check b (Err why) ∷ cs)
+    copied = one_more outcome (λ why. copy_answer (Err why) room) (λ why. refl)

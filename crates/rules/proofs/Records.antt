@@ -76,29 +76,6 @@ pub matches-at : (from k at : ℕ) (w t : List ℕ) {b : Bool} → from + length
 unfolding matches
 matches-at from k at w t h e = matches-take from w (drop at t) k h ∙ rw drop-drop (sym e)
 
--- A loop over the records of a table that asks F of them: F of the records that are left is F of all
-
-pub record Walking {A : Type 0} (F : List Rec → A) (k : ℕ) (t : List ℕ) (at : ℕ) : Type 0 where
-  pub within : at ≤ length t
-  pub rest : F (records k (drop at t)) ≡ F (records k t)
-
-module _ {A : Type 0} {F : List Rec → A} {k : ℕ} {t : List ℕ} where
-  pub walking_start : Walking F k t 0
-  walking_start = record { within = omega arith; rest = refl }
-
-  -- the record at `at` makes no difference
-  pub walking_more : {at : ℕ} → Walking F k t at → 0 < k → at + k ≤ length t
-      → F (take k (drop at t) ∷ records k (drop (at + k) t)) ≡ F (records k (drop (at + k) t)) → Walking F k t (at + k)
-  walking_more {at} c h l e = record { within = l; rest = sym e ∙ rw (records-at k at t h l) at c.rest }
-
-  -- the record at `at` decides
-  pub walking_hit : {at : ℕ} {v : A} → Walking F k t at → 0 < k → at + k ≤ length t
-      → F (take k (drop at t) ∷ records k (drop (at + k) t)) ≡ v → v ≡ F (records k t)
-  walking_hit {at} c h l e = sym e ∙ rw (records-at k at t h l) at c.rest
-
-  pub walking_end : {at : ℕ} → Walking F k t at → length t - at < k → F [] ≡ F (records k t)
-  walking_end {at} c l = rw (records_end k at t l) at c.rest
-
 -- Records and their octets
 
 bytes_cut : (n k : ℕ) (t : List ℕ) → bytes (cut n k t) ≡ take (n * k) t

@@ -1,12 +1,13 @@
 -- Every reply can be read (document 01, The message; Commands and codes): a sender that is answered a length has in so many octets a message again, from
 -- the concentrator to it, with its own App Ref and interface, and behind the header the payload that its command made.
+use Rattle.std.specs.Prelude.{Some, Result, Ok}
 use lib.Seq.{take_at}
 use Rattle.words.specs.Basics.{◌≡◌, refl, sym, ap, ◌∙◌, Bool, true, false, cond, false≢true, List, [], ◌∷◌, ℕ, ◌+◌, ◌-◌, ◌*◌, ◌≤◌, arith, eqb, length, take}
 use Rattle.words.specs.Basics.{drop, length-append, length-take, eqb-true, leb-true}
 use Rattle.words.specs.Names.{code, ok, header_length, longest}
 use Rattle.words.specs.Outcomes.{number_of, value_of}
-use Rattle.rules.specs.Types.{DeviceAddress, GroupAddress, Fields, Command, AddBind, RemoveBinds, StartSession, EndSession, GetEntries, CreateGroup}
-use Rattle.rules.specs.Types.{DeleteGroup, AddToGroup, RemoveFromGroup, GetGroupInfo, Is, Binds, Groups, Members, Outcome, Done, Way}
+use Rattle.rules.specs.Types.{DeviceAddress, GroupAddress, Fields, Command, AddBind, RemoveBinds, StartSession, EndSession, GetEntries, CreateGroup, Refusal}
+use Rattle.rules.specs.Types.{DeleteGroup, AddToGroup, RemoveFromGroup, GetGroupInfo, Binds, Groups, Members, Outcome, Done, Way}
 use Rattle.rules.specs.Lists.{first_of}
 use Rattle.rules.specs.Octets.{octets, over}
 use Rattle.rules.specs.Units.{unit_octets, ordered}
@@ -87,9 +88,9 @@ module _ (L : Lent) (h : sound L ≡ true) where
 pub record Replied (L : Lent) (m reply : List ℕ) (n : ℕ) : Type 0 where
   -- the message's command
   pub served : Command
-  pub asks : command (fields m) ≡ Is served
+  pub asks : command (fields m) ≡ Some served
   -- a message, and its fields
-  pub reads : reading (take n reply) ≡ reading_of (Done 0) (answering (fields m) (n - header_length))
+  pub reads : reading (take n reply) ≡ reading_of (Ok (Done 0)) (answering (fields m) (n - header_length))
   -- the payload that was written
   pub says : payload (take n reply) ≡ reply_payload (tables L) served (payload m) (judge (tables L) (fields m).source served (payload m))
 
@@ -99,15 +100,15 @@ unfolding forwarded
 no_reply [] L r l = refl
 no_reply (u ∷ us) L r l = refl
 
-not_done : {o : Outcome} {n : ℕ} → eqb (number_of o) 0 ≡ false → o ≡ Done n → ⊥
+not_done : {o : Outcome} {n : ℕ} → eqb (number_of o) 0 ≡ false → o ≡ Ok (Done n) → ⊥
 not_done h e = false≢true (sym h ∙ ap (λ (o : Outcome). eqb (number_of o) 0) e)
 
 module _ (L : Lent) (m r l : List ℕ) where
-  pub reply_again : (n : ℕ) → (message L m r l).outcome ≡ Done n → Replied L m (message L m r l).reply n
+  pub reply_again : (n : ℕ) → (message L m r l).outcome ≡ Ok (Done n) → Replied L m (message L m r l).reply n
   unfolding message follow handled answered over
   reply_again n = by (ways L m r l)
     where
-      by : {w : Way} → Ways (Acting L m r l) (fields m) w → (follow w L m r l).outcome ≡ Done n → Replied L m (follow w L m r l).reply n
+      by : {w : Result Way Refusal} → Ways (Acting L m r l) (fields m) w → (follow w L m r l).outcome ≡ Ok (Done n) → Replied L m (follow w L m r l).reply n
       by (refuses x) e = absurd (not_done x.0 e)
       by (serves {k = k} a c) e =
           let f : Fields = fields m in
@@ -118,7 +119,7 @@ module _ (L : Lent) (m r l : List ℕ) where
           record {
             served = k;
             asks = c;
-            reads = ap reading t ∙ reply-read m q (reply_short L a.sound f.source k (payload m)) ∙ ap (λ (i : ℕ). reading_of (Done 0) (answering f i)) z;
+            reads = ap reading t ∙ reply-read m q (reply_short L a.sound f.source k (payload m)) ∙ ap (λ (i : ℕ). reading_of (Ok (Done 0)) (answering f i)) z;
             says = ap payload t ∙ reply_payload_lem f q;
           }
       by (forwards {to = to} a d) e = absurd (not_done (no_reply (recipients (tables L Binds) (tables L Members) to (fields m)) L r l) e)

@@ -1,4 +1,5 @@
 -- What was written is read back: the octets of a header and its payload give the fields and the payload again (document 01, The message).
+use Rattle.std.specs.Prelude.{Ok}
 use Rattle.words.specs.Basics.{◌≡◌, refl, ap, ◌∙◌, true, List, ◌++◌, ℕ, ◌+◌, ◌-◌, ◌*◌, ◌/◌, ◌%◌, ◌<◌, ◌≤◌, arith, length, length-append, drop_at, eq-eqb}
 use Rattle.words.specs.Basics.{le-leb}
 use Rattle.rules.specs.Types.{Fields, Done}
@@ -81,7 +82,7 @@ module _ (f : Fields) (p : List ℕ) (s : Sendable f p) where
   unfolding octets message_type_of type_fits header
   type-right = join (le-leb command_type f.message_type s.least) (le-leb f.message_type last_type s.most)
 
-  pub read_again : reading (header f ++ p) ≡ reading_of (Done 0) f
+  pub read_again : reading (header f ++ p) ≡ reading_of (Ok (Done 0)) f
   unfolding reading reads
   read_again = rw (ask_pass _ _ length-right, ask_pass _ _ data_length-right, ask_pass _ _ type-right, fields_again)
 
@@ -103,7 +104,7 @@ module _ (m p : List ℕ) where
         place = refl;
       }
 
-  pub reply-read : header_length + length p ≤ longest → reading (reply (fields m) p) ≡ reading_of (Done 0) (answering (fields m) (length p))
+  pub reply-read : header_length + length p ≤ longest → reading (reply (fields m) p) ≡ reading_of (Ok (Done 0)) (answering (fields m) (length p))
   unfolding reply
   reply-read h = read_again (answering (fields m) (length p)) p (reply_sendable h)
 

@@ -1,12 +1,13 @@
 -- The rows of document 01, "Rows to try": the cases marked P and the sample of `links`, from tables of full size. Then all rows in one theorem: these,
 -- and those of the files `RowsOf..`, which speak of the paper's other sentences.
+use Rattle.std.specs.Prelude.{Ok, Err}
 use Rattle.words.specs.Basics.{refl, List, [], ◌∷◌, ◌++◌, ℕ}
 use Rattle.rules.specs.Frame.{Lent}
 use Rattle.rules.specs.Message.{reading}
 use Rattle.rules.specs.Calls.{Answer}
 use Rattle.rules.specs.History.{octets_only}
 use Rattle.words.specs.Outcomes.{number_of, value_of}
-use Rattle.words.specs.declared.Outcome.TheVariants.{NotServed}
+use Rattle.rules.specs.Types.{NotServed}
 use Rattle.words.proofs.Apart.{read_back, reason_back}
 use Rattle.rules.specs.Types.{Outcome, Done, Forwarded, Nobody, WrongLength, WrongDataLength, WrongType, NoSource, NoDestination, ResponseToMany}
 use Rattle.rules.specs.Types.{Unsound, NoRoom, NoCopy, OutOfRange, AlreadyAdmitted, NoFreeRecord, NotAdmitted}
@@ -94,23 +95,23 @@ numbered o = number_of o ∷ value_of o ∷ []
 
 abbrev outcomes : List (Row Outcome (List ℕ))
 outcomes =
-    row (Done 16) (0 ∷ 16 ∷ [])
-    ∷ row (Forwarded 2) (1 ∷ 2 ∷ [])
-    ∷ row Nobody (2 ∷ 0 ∷ [])
-    ∷ row WrongLength (10 ∷ 0 ∷ [])
-    ∷ row WrongDataLength (11 ∷ 0 ∷ [])
-    ∷ row WrongType (12 ∷ 0 ∷ [])
-    ∷ row NoSource (13 ∷ 0 ∷ [])
-    ∷ row NoDestination (14 ∷ 0 ∷ [])
-    ∷ row ResponseToMany (15 ∷ 0 ∷ [])
-    ∷ row Unsound (16 ∷ 0 ∷ [])
-    ∷ row NoRoom (17 ∷ 0 ∷ [])
-    ∷ row NotServed (18 ∷ 0 ∷ [])
-    ∷ row NoCopy (19 ∷ 0 ∷ [])
-    ∷ row OutOfRange (20 ∷ 0 ∷ [])
-    ∷ row AlreadyAdmitted (21 ∷ 0 ∷ [])
-    ∷ row NoFreeRecord (22 ∷ 0 ∷ [])
-    ∷ row NotAdmitted (23 ∷ 0 ∷ [])
+    row (Ok (Done 16)) (0 ∷ 16 ∷ [])
+    ∷ row (Ok (Forwarded 2)) (1 ∷ 2 ∷ [])
+    ∷ row (Ok Nobody) (2 ∷ 0 ∷ [])
+    ∷ row (Err WrongLength) (10 ∷ 0 ∷ [])
+    ∷ row (Err WrongDataLength) (11 ∷ 0 ∷ [])
+    ∷ row (Err WrongType) (12 ∷ 0 ∷ [])
+    ∷ row (Err NoSource) (13 ∷ 0 ∷ [])
+    ∷ row (Err NoDestination) (14 ∷ 0 ∷ [])
+    ∷ row (Err ResponseToMany) (15 ∷ 0 ∷ [])
+    ∷ row (Err Unsound) (16 ∷ 0 ∷ [])
+    ∷ row (Err NoRoom) (17 ∷ 0 ∷ [])
+    ∷ row (Err NotServed) (18 ∷ 0 ∷ [])
+    ∷ row (Err NoCopy) (19 ∷ 0 ∷ [])
+    ∷ row (Err OutOfRange) (20 ∷ 0 ∷ [])
+    ∷ row (Err AlreadyAdmitted) (21 ∷ 0 ∷ [])
+    ∷ row (Err NoFreeRecord) (22 ∷ 0 ∷ [])
+    ∷ row (Err NotAdmitted) (23 ∷ 0 ∷ [])
     ∷ []
 
 -- Every row, by what it is about: where one fails, the check names its table

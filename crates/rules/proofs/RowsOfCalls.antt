@@ -2,9 +2,9 @@
 use Rattle.words.specs.Basics.{List, [], ◌∷◌, ◌++◌, map, ℕ, replicate}
 use Rattle.words.specs.Names.{device}
 use Rattle.words.proofs.Apart.{read_back}
-use Rattle.rules.specs.Types.{Fields, Reading}
+use Rattle.rules.specs.Types.{Fields}
 use Rattle.rules.specs.Frame.{Lent}
-use Rattle.rules.specs.Message.{reading_of}
+use Rattle.rules.specs.Message.{Reading, reading_of}
 use Rattle.rules.specs.Copy.{CopyAnswer, copy_answer, copy}
 use Rattle.rules.specs.Host.{HostAnswer, host_answer, admit, release}
 use Rattle.rules.proofs.Samples.{Row, row, run, lending, filled, units, only_zero, zero-to_one, zero_to_two, zero_to_254, valance, valance-without-zero}

@@ -1,7 +1,8 @@
 -- Rows: why an Add Bind is answered 0x02 (document 02, request 6): each of the nine reasons with its octet, which of two is given, and where none is.
+use Rattle.std.specs.Prelude.{Option, None, Some}
 use Rattle.words.specs.Basics.{Bool, true, false, List, [], ◌∷◌, ◌++◌, map, ℕ}
 use Rattle.words.specs.Reasons.{reason_number, reason_octet}
-use Rattle.rules.specs.Types.{Reason, NoFault, PayloadLength, NoSourceDevice, NoSourceUnit, DestinationUnitFF, NoDestinationDevice, NoDestinationUnit}
+use Rattle.rules.specs.Types.{Reason, PayloadLength, NoSourceDevice, NoSourceUnit, DestinationUnitFF, NoDestinationDevice, NoDestinationUnit}
 use Rattle.rules.specs.Types.{NoGroup, BoundToItself, AlreadyPresent, Devices, Groups}
 use Rattle.rules.specs.Frame.{tables}
 use Rattle.rules.specs.Calls.{Answer}
@@ -11,21 +12,21 @@ use Rattle.rules.proofs.Samples.{Sent, sent, replied, grants, code, faulty}
 
 -- The list of reasons: each with its number and its octet
 
-abbrev pub numbered : Reason → List ℕ
+abbrev pub numbered : Option Reason → List ℕ
 numbered f = reason_number f ∷ reason_octet f ∷ []
 
-abbrev pub reasons : List (Row Reason (List ℕ))
+abbrev pub reasons : List (Row (Option Reason) (List ℕ))
 reasons =
-    row NoFault (0 ∷ 0 ∷ [])
-    ∷ row PayloadLength (1 ∷ 0 ∷ [])
-    ∷ row NoSourceDevice (2 ∷ 1 ∷ [])
-    ∷ row NoSourceUnit (3 ∷ 3 ∷ [])
-    ∷ row DestinationUnitFF (4 ∷ 8 ∷ [])
-    ∷ row NoDestinationDevice (5 ∷ 6 ∷ [])
-    ∷ row NoDestinationUnit (6 ∷ 8 ∷ [])
-    ∷ row NoGroup (7 ∷ 6 ∷ [])
-    ∷ row BoundToItself (8 ∷ 6 ∷ [])
-    ∷ row AlreadyPresent (9 ∷ 1 ∷ [])
+    row None (0 ∷ 0 ∷ [])
+    ∷ row (Some PayloadLength) (1 ∷ 0 ∷ [])
+    ∷ row (Some NoSourceDevice) (2 ∷ 1 ∷ [])
+    ∷ row (Some NoSourceUnit) (3 ∷ 3 ∷ [])
+    ∷ row (Some DestinationUnitFF) (4 ∷ 8 ∷ [])
+    ∷ row (Some NoDestinationDevice) (5 ∷ 6 ∷ [])
+    ∷ row (Some NoDestinationUnit) (6 ∷ 8 ∷ [])
+    ∷ row (Some NoGroup) (7 ∷ 6 ∷ [])
+    ∷ row (Some BoundToItself) (8 ∷ 6 ∷ [])
+    ∷ row (Some AlreadyPresent) (9 ∷ 1 ∷ [])
     ∷ []
 
 -- Add Bind in the house with the bind from 3:01 to 4:02, for this reason
@@ -87,18 +88,18 @@ pub record Asked : Type 0 where
 abbrev asked : Bool → ℕ → Bool → Asked
 asked w b n = record { whole = w; bind = b; new = n }
 
-abbrev pub fault_of : Asked → Reason
+abbrev pub fault_of : Asked → Option Reason
 fault_of x = fault x.whole (tables plain Devices) (tables plain Groups) (run 8 x.bind) x.new
 
-abbrev pub first_of-two : List (Row Asked Reason)
+abbrev pub first_of-two : List (Row Asked (Option Reason))
 first_of-two =
-    row (asked true 0x00_03_01_82_00_00_03_01 false) BoundToItself
-    ∷ row (asked true 0x00_03_01_82_00_80_03_00 false) NoGroup
-    ∷ row (asked true 0x00_03_01_82_00_00_04_03 false) NoDestinationUnit
-    ∷ row (asked true 0x00_06_00_82_00_00_04_02 false) NoSourceDevice
-    ∷ row (asked false 0x00_03_01_82_00_00_04_02 false) PayloadLength
-    ∷ row (asked true 0x00_03_01_82_00_00_04_02 false) AlreadyPresent
-    ∷ row (asked true 0x00_03_01_82_00_00_04_02 true) NoFault
+    row (asked true 0x00_03_01_82_00_00_03_01 false) (Some BoundToItself)
+    ∷ row (asked true 0x00_03_01_82_00_80_03_00 false) (Some NoGroup)
+    ∷ row (asked true 0x00_03_01_82_00_00_04_03 false) (Some NoDestinationUnit)
+    ∷ row (asked true 0x00_06_00_82_00_00_04_02 false) (Some NoSourceDevice)
+    ∷ row (asked false 0x00_03_01_82_00_00_04_02 false) (Some PayloadLength)
+    ∷ row (asked true 0x00_03_01_82_00_00_04_02 false) (Some AlreadyPresent)
+    ∷ row (asked true 0x00_03_01_82_00_00_04_02 true) None
     ∷ []
 
 -- "With any other code or outcome reason and octet are 0.": 0x00, 0xFE, 0x01 also where a fault is there, and 0x02 of another command. The rows of the other

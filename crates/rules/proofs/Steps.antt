@@ -1,8 +1,9 @@
 -- Every call, refused ones included, is one step: it leaves the tables with a change in order, and the change is what the call and its answer say.
+use Rattle.std.specs.Prelude.{None, Some, Result}
 use Rattle.words.specs.Basics.{◌≡◌, refl, sym, ap, ◌∙◌, Bool, true, false, cond, false≢true, List, [], ◌∷◌, ◌++◌, ℕ, eqb, length, drop, eqb-true}
 use Rattle.words.specs.Names.{code, ok, header_length}
 use Rattle.words.specs.Outcomes.{number_of}
-use Rattle.rules.specs.Types.{DeviceAddress, Code, NoFault, Fields, Command, StartSession, Is, Binds, Members, Outcome, Way}
+use Rattle.rules.specs.Types.{DeviceAddress, Code, Fields, Command, StartSession, Binds, Members, Outcome, Way, Refusal}
 use Rattle.rules.specs.Lists.{◌&◌}
 use Rattle.rules.specs.Octets.{octet, octets, over, octet_string}
 use Rattle.rules.specs.Frame.{Lent, tables, Effect, nothing, changed}
@@ -18,7 +19,7 @@ use Rattle.rules.specs.Sheet.{device_of, Starting}
 use Rattle.rules.proofs.Lists.{all_drop}
 use Rattle.rules.proofs.Words.{shaped}
 use Rattle.rules.proofs.Frames.{changed-nothing}
-use Rattle.rules.proofs.Kept.{Sane, Ok, ok-nothing}
+use Rattle.rules.proofs.Kept.{Sane, Allowed, ok-nothing}
 use Rattle.rules.proofs.Granted.{Granted, granted-command, ok-closing, Told, told-nothing, told-closing}
 use Rattle.rules.proofs.Hosted.{Hosted, granting, refusing, hosted-admit, hosted-release}
 use Rattle.rules.proofs.Shuts.{Shuts, shuts_nothing, shuts_closing, own-starts, own-command, own-release, shuts_admit}
@@ -30,8 +31,8 @@ unfoldable pub granted_by : Answer → Bool
 granted_by a = eqb (number_of a.outcome) 0 & eqb (octet header_length a.reply) ok.0
 
 pub data Answers (L : Lent) (m r l : List ℕ) : Answer → Type 0 where
-  leaves : {a : Answer} → a.tables ≡ L → eqb (number_of a.outcome) 0 ≡ false → a.reason ≡ NoFault → Answers L m r l a
-  handles : {k : Command} → command (fields m) ≡ Is k → Answers L m r l (handled L k (fields m) (payload m) r l)
+  leaves : {a : Answer} → a.tables ≡ L → eqb (number_of a.outcome) 0 ≡ false → a.reason ≡ None → Answers L m r l a
+  handles : {k : Command} → command (fields m) ≡ Some k → Answers L m r l (handled L k (fields m) (payload m) r l)
 
 not-granted : (a : Answer) → eqb (number_of a.outcome) 0 ≡ false → granted_by a ≡ false
 unfolding granted_by ◌&◌
@@ -46,7 +47,7 @@ pub answers : (L : Lent) (m r l : List ℕ) → Answers L m r l (message L m r l
 unfolding message follow
 answers L m r l = by (ways L m r l)
   where
-    by : {w : Way} → Ways (Acting L m r l) (fields m) w → Answers L m r l (follow w L m r l)
+    by : {w : Result Way Refusal} → Ways (Acting L m r l) (fields m) w → Answers L m r l (follow w L m r l)
     by (refuses n) = leaves refl n.0 refl
     by (serves {k = k} p e) = handles e
     by (forwards {to = to} p e) = handed_on (recipients (tables L Binds) (tables L Members) to (fields m)) L m r l
@@ -73,7 +74,7 @@ module _ (L : Lent) (k : Command) (f : Fields) (p r : List ℕ) where
   unfolding reply_payload on_ok
   ok-payload j = rw j
 
-pub granted-reply : (L : Lent) (m r l : List ℕ) (k : Command) → command (fields m) ≡ Is k → granted (sends m r l) (said L (sends m r l)) ≡ true
+pub granted-reply : (L : Lent) (m r l : List ℕ) (k : Command) → command (fields m) ≡ Some k → granted (sends m r l) (said L (sends m r l)) ≡ true
     → Reply L m r l k
 unfolding said granted granted_by handled answered
 granted-reply L m r l k d g = by (message L m r l) refl (answers L m r l)
@@ -101,7 +102,7 @@ entered b e = cond b e silence
 pub record Step (L : Lent) (c : Call) : Type 0 where
   pub change : Effect
   pub leaves : left L c ≡ changed change L
-  pub ok : Ok L change
+  pub ok : Allowed L change
   pub told : Told change (entered (granted c (said L c)) (entries c))
   pub shuts : Shuts (tables L) (device_of c) (Starting (device_of c) c) change
 
@@ -115,11 +116,11 @@ told-refused e = told-nothing
 
 -- a command does something or nothing, by its code
 module _ (L : Lent) (s : DeviceAddress) (k : Command) (p : List ℕ) (c : Code) (h : c ≡ ok → Granted L s k p) where
-  ok-done : Ok L (done (tables L) s k p c)
+  ok-done : Allowed L (done (tables L) s k p c)
   unfolding done on_ok
   ok-done = step (eqb c.0 ok.0) refl
     where
-      step : (b : Bool) → eqb c.0 ok.0 ≡ b → Ok L (cond b (closing (tables L) ((row k).effect (tables L) s p)) nothing)
+      step : (b : Bool) → eqb c.0 ok.0 ≡ b → Allowed L (cond b (closing (tables L) ((row k).effect (tables L) s p)) nothing)
       step true e = ok-closing (tables L) (h (ap code (eqb-true c.0 ok.0 e))).ok
       step false e = ok-nothing L
 
@@ -163,7 +164,7 @@ step_message L m r l o S = by (message L m r l) refl (answers L m r l)
           leaves = ap (λ (x : Answer). x.tables) e;
           ok = ok-done L f.source k p c g;
           told = told_when (entries (sends m r l)) (ap granted_by e ∙ handled-granted L k f p r l) (rw d (told-done L f.source k p c g));
-          shuts = shuts_done L f.source k p c g (λ z. (d ∙ ap (λ (k : Command). Is k) z, refl));
+          shuts = shuts_done L f.source k p c g (λ z. (d ∙ ap (λ (k : Command). Some k) z, refl));
         }
 
 -- the same of a host call, whose entries are these

@@ -1,4 +1,5 @@
 -- The run of docs/HISTORY.md, call by call: whether it was granted, what stands after it, and where a request then goes. One theorem.
+use Rattle.std.specs.Prelude.{Ok}
 use Rattle.words.specs.Basics.{◌≡◌, refl, ap, ◌∙◌, Bool, true, false, cond, List, [], ◌∷◌, ◌++◌, map, ℕ}
 use Rattle.words.specs.Names.{device}
 use Rattle.rules.specs.Types.{Kind, Binds, Members, Outcome, Forwarded, Nobody}
@@ -147,31 +148,31 @@ to_five = run 3 0x00_05_01
 -- to the place where both binds and both members stand
 abbrev pub linking : List Line
 linking =
-    line (admits (device 3) 1 zero_to_two) true (place (tables D3 [] [] []) [] []) Nobody []
-    ∷ line (admits (device 4) 0 zero_to_two) true (place (tables (D3 ++ D4) [] [] []) [] []) Nobody []
-    ∷ line (admits (device 5) 0 zero-to_one) true (three [] [] [] [] []) Nobody []
+    line (admits (device 3) 1 zero_to_two) true (place (tables D3 [] [] []) [] []) (Ok Nobody) []
+    ∷ line (admits (device 4) 0 zero_to_two) true (place (tables (D3 ++ D4) [] [] []) [] []) (Ok Nobody) []
+    ∷ line (admits (device 5) 0 zero-to_one) true (three [] [] [] [] []) (Ok Nobody) []
     -- Create Group "S"; Add to Group 4:02 and 5:01
-    ∷ line (gives group_management 0x01 (run 2 0x01_53)) true (three [] S [] [] []) Nobody []
-    ∷ line (gives group_management 0x03 four) true (three [] S four [] (four ∷ [])) Nobody []
-    ∷ line (gives group_management 0x03 five) true (three [] S (four ++ five) [] (five ∷ four ∷ [])) Nobody []
+    ∷ line (gives group_management 0x01 (run 2 0x01_53)) true (three [] S [] [] []) (Ok Nobody) []
+    ∷ line (gives group_management 0x03 four) true (three [] S four [] (four ∷ [])) (Ok Nobody) []
+    ∷ line (gives group_management 0x03 five) true (three [] S (four ++ five) [] (five ∷ four ∷ [])) (Ok Nobody) []
     -- Add Bind A and B, and B again: 0x02
-    ∷ line (gives bind_management 0x01 A) true (three A S (four ++ five) (A ∷ []) (five ∷ four ∷ [])) (Forwarded 1) to_four
-    ∷ line (gives bind_management 0x01 B) true (three (A ++ B) S (four ++ five) (B ∷ A ∷ []) (five ∷ four ∷ [])) (Forwarded 2) (to_four ++ to_five)
-    ∷ line (gives bind_management 0x01 B) false (three (A ++ B) S (four ++ five) (B ∷ A ∷ []) (five ∷ four ∷ [])) (Forwarded 2) (to_four ++ to_five)
+    ∷ line (gives bind_management 0x01 A) true (three A S (four ++ five) (A ∷ []) (five ∷ four ∷ [])) (Ok (Forwarded 1)) to_four
+    ∷ line (gives bind_management 0x01 B) true (three (A ++ B) S (four ++ five) (B ∷ A ∷ []) (five ∷ four ∷ [])) (Ok (Forwarded 2)) (to_four ++ to_five)
+    ∷ line (gives bind_management 0x01 B) false (three (A ++ B) S (four ++ five) (B ∷ A ∷ []) (five ∷ four ∷ [])) (Ok (Forwarded 2)) (to_four ++ to_five)
     ∷ []
 
 -- and from there
 abbrev unlinking : List Line
 unlinking =
     -- Remove from Group 4:02, Remove Bind by destination D'4
-    line (gives group_management 0x04 four) true (three (A ++ B) S (gone four ++ five) (B ∷ A ∷ []) (five ∷ [])) (Forwarded 2) (to_four ++ to_five)
-    ∷ line (gives bind_management 0x05 (run 2 0x00_04)) true (three (gone A ++ B) S (gone four ++ five) (B ∷ []) (five ∷ [])) (Forwarded 1) to_five
+    line (gives group_management 0x04 four) true (three (A ++ B) S (gone four ++ five) (B ∷ A ∷ []) (five ∷ [])) (Ok (Forwarded 2)) (to_four ++ to_five)
+    ∷ line (gives bind_management 0x05 (run 2 0x00_04)) true (three (gone A ++ B) S (gone four ++ five) (B ∷ []) (five ∷ [])) (Ok (Forwarded 1)) to_five
     -- Release and admit device 5
-    ∷ line (releases (device 5)) true (place (tables (D3 ++ D4) (gone A ++ B) S []) (B ∷ []) []) Nobody []
-    ∷ line (admits (device 5) 0 zero-to_one) true (three (gone A ++ B) S [] (B ∷ []) []) Nobody []
+    ∷ line (releases (device 5)) true (place (tables (D3 ++ D4) (gone A ++ B) S []) (B ∷ []) []) (Ok Nobody) []
+    ∷ line (admits (device 5) 0 zero-to_one) true (three (gone A ++ B) S [] (B ∷ []) []) (Ok Nobody) []
     -- Delete Group 1, Create Group "S"
-    ∷ line (gives group_management 0x02 (run 2 0x00_01)) true (three [] [] [] [] []) Nobody []
-    ∷ line (gives group_management 0x01 (run 2 0x01_53)) true (three [] S [] [] []) Nobody []
+    ∷ line (gives group_management 0x02 (run 2 0x00_01)) true (three [] [] [] [] []) (Ok Nobody) []
+    ∷ line (gives group_management 0x01 (run 2 0x01_53)) true (three [] S [] [] []) (Ok Nobody) []
     ∷ []
 
 line_by_line : Computing (place start [] []) (linking ++ unlinking)

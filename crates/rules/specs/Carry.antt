@@ -1,6 +1,6 @@
 -- Old device tables carried over (document 02, request 2). In an old record of 4 octets a device has units 0 to its highest; a new one has them as a set.
 -- This call is made once, before the first call on the new table, and is no part of condition 3's runs.
-use Rattle.std.specs.Prelude.{Bool, true, cond, List, map, ℕ, ◌*◌, eqb, leb, length, replicate}
+use Rattle.std.specs.Prelude.{Bool, true, cond, List, map, ℕ, ◌*◌, eqb, leb, length, replicate, Ok, Err}
 use Rattle.words.specs.Names.{device, concentrator, highest_unit}
 use Rattle.words.specs.Outcomes.{number_of}
 use Rattle.rules.specs.Types.{DeviceAddress, Devices, Outcome, Done, Unsound, NoRoom}
@@ -69,7 +69,7 @@ times = 9
 
 -- "16 for an unsound old table, then 17 where the new one isn't nine times its length"
 unfoldable pub carry_outcome : List ℕ → List ℕ → Outcome
-carry_outcome old new = ask (old_sound old) Unsound (ask (eqb (length new) (times * length old)) NoRoom (Done 0))
+carry_outcome old new = ask (old_sound old) (Err Unsound) (ask (eqb (length new) (times * length old)) (Err NoRoom) (Ok (Done 0)))
 
 -- with outcome 0 every octet is written, with any other none
 unfoldable pub carried_over : List ℕ → List ℕ → CarryAnswer

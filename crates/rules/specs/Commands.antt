@@ -1,9 +1,9 @@
 -- The commands (document 01, Commands and codes): a row for each, with its checks and codes in the paper's order, what it changes, and what its
 -- reply has behind 0x00.
-use Rattle.std.specs.Prelude.{Bool, true, false, cond, not, ◌||◌, List, [], ◌∷◌, ◌++◌, ℕ, zero, suc, ◌+◌, eqb, leb, length}
+use Rattle.std.specs.Prelude.{Bool, true, false, cond, not, ◌||◌, List, [], ◌∷◌, ◌++◌, ℕ, zero, suc, ◌+◌, eqb, leb, length, Option, None}
 use Rattle.words.specs.Names.{ok, not_authorized, invalid_argument, no_read_session, not_enough_resources, unknown_reason, group, lowest}
 use Rattle.words.specs.Reasons.{faultless}
-use Rattle.rules.specs.Types.{DeviceAddress, GroupAddress, Code, Reason, NoFault, Command, AddBind, RemoveBinds, StartSession, EndSession, GetEntries}
+use Rattle.rules.specs.Types.{DeviceAddress, GroupAddress, Code, Reason, Command, AddBind, RemoveBinds, StartSession, EndSession, GetEntries}
 use Rattle.rules.specs.Types.{CreateGroup, DeleteGroup, AddToGroup, RemoveFromGroup, GetGroupInfo, Devices, Binds, Groups, Members, Sessions}
 use Rattle.rules.specs.Lists.{any, first_of, ask}
 use Rattle.rules.specs.Octets.{octet, octets}
@@ -78,7 +78,7 @@ pub record Row : Type 0 where
   -- how long should this payload be?
   pub length : List ℕ → ℕ
   -- what its caller is told of a payload that it answers 0x02 (document 02, request 6: of Add Bind alone)
-  pub fault : Tables → List ℕ → Reason
+  pub fault : Tables → List ℕ → Option Reason
   -- the code of the checks behind these, by the tables, the sender's device and the payload
   pub verdict : Tables → DeviceAddress → List ℕ → Code
   -- what it changes, answered 0x00
@@ -87,8 +87,8 @@ pub record Row : Type 0 where
   pub behind : Tables → List ℕ → List ℕ
 
 -- nothing is told
-abbrev pub unexplained : Tables → List ℕ → Reason
-unexplained T p = NoFault
+abbrev pub unexplained : Tables → List ℕ → Option Reason
+unexplained T p = None
 
 abbrev pub row : Command → Row
 row AddBind =
@@ -204,8 +204,8 @@ judge T s k p =
     ((row k).verdict T s p)))
 
 -- "With any other code .. reason and octet are 0."
-unfoldable pub explained : Tables → Command → List ℕ → Code → Reason
-explained T k p c = cond (eqb c.0 invalid_argument.0) ((row k).fault T p) NoFault
+unfoldable pub explained : Tables → Command → List ℕ → Code → Option Reason
+explained T k p c = cond (eqb c.0 invalid_argument.0) ((row k).fault T p) None
 
 -- the first where the code is 0x00, else the second
 unfoldable pub on_ok : {A : Type 0} → Code → A → A → A

@@ -1,5 +1,5 @@
 -- "A copy equals the message but for octets 4 to 6: type 0, device, unit." (document 01, Recipients)
-use Rattle.std.specs.Prelude.{Bool, not, List, [], ◌∷◌, ◌++◌, ℕ, eqb, leb, length}
+use Rattle.std.specs.Prelude.{Bool, not, List, [], ◌∷◌, ◌++◌, ℕ, eqb, leb, length, Ok, Err}
 use Rattle.std.proofs.lemmas.List.Edits.{sets}
 use Rattle.words.specs.Names.{highest, not_a_unit}
 use Rattle.rules.specs.Types.{DeviceAddress, Outcome, Done, NoCopy}
@@ -25,6 +25,6 @@ copy_answer o room = record { outcome = o; room = room }
 -- "Copy: 10, 11, 12, 19, else 0."
 unfoldable pub copy : List ℕ → List ℕ → DeviceAddress → ℕ → CopyAnswer
 copy m room d u =
-    reads m (λ o. copy_answer o room)
-    (ask (copy_fits m room d u) (copy_answer NoCopy room)
-    (copy_answer (Done (length m)) (over (copied m d u) room)))
+    reads m (λ why. copy_answer (Err why) room)
+    (ask (copy_fits m room d u) (copy_answer (Err NoCopy) room)
+    (copy_answer (Ok (Done (length m))) (over (copied m d u) room)))

@@ -1,7 +1,7 @@
 -- What is wrong with a bind, and with an Add Bind (document 01, Commands and codes; document 02, requests 4 and 6): the nine reasons.
-use Rattle.std.specs.Prelude.{Bool, true, not, ◌||◌, List, ℕ, eqb, length}
+use Rattle.std.specs.Prelude.{Bool, true, not, ◌||◌, List, ℕ, eqb, length, Option, None, Some}
 use Rattle.words.specs.Names.{not_a_unit}
-use Rattle.rules.specs.Types.{Reason, NoFault, PayloadLength, NoSourceDevice, NoSourceUnit, DestinationUnitFF, NoDestinationDevice, NoDestinationUnit}
+use Rattle.rules.specs.Types.{Reason, PayloadLength, NoSourceDevice, NoSourceUnit, DestinationUnitFF, NoDestinationDevice, NoDestinationUnit}
 use Rattle.rules.specs.Types.{NoGroup, BoundToItself, AlreadyPresent, Binds}
 use Rattle.rules.specs.Lists.{any, ask}
 use Rattle.rules.specs.Tables.{Rec, used, matches}
@@ -42,23 +42,23 @@ to_another b = to_group b || not (eqb (bind_to b) (bind_from b))
 
 -- "The first that holds is given.": 1 to 9 in the paper's order, of the bind b among devices and groups; `whole` says that its payload has the right
 -- length, `new` that it is not present
-unfoldable pub fault : (whole : Bool) → List Rec → List Rec → Rec → (new : Bool) → Reason
+unfoldable pub fault : (whole : Bool) → List Rec → List Rec → Rec → (new : Bool) → Option Reason
 fault whole ds gs b new =
-    ask whole PayloadLength
-    (ask (has_source_device ds b) NoSourceDevice
-    (ask (has_source_unit ds b) NoSourceUnit
-    (ask (names_unit b) DestinationUnitFF
-    (ask (has_bound_device ds b) NoDestinationDevice
-    (ask (has_bound_unit ds b) NoDestinationUnit
-    (ask (has_bound_group gs b) NoGroup
-    (ask (to_another b) BoundToItself
-    (ask new AlreadyPresent
-    NoFault))))))))
+    ask whole (Some PayloadLength)
+    (ask (has_source_device ds b) (Some NoSourceDevice)
+    (ask (has_source_unit ds b) (Some NoSourceUnit)
+    (ask (names_unit b) (Some DestinationUnitFF)
+    (ask (has_bound_device ds b) (Some NoDestinationDevice)
+    (ask (has_bound_unit ds b) (Some NoDestinationUnit)
+    (ask (has_bound_group gs b) (Some NoGroup)
+    (ask (to_another b) (Some BoundToItself)
+    (ask new (Some AlreadyPresent)
+    None))))))))
 
 -- of a bind in a table, of which length and presence are not asked
-abbrev pub bind_fault : List Rec → List Rec → Rec → Reason
+abbrev pub bind_fault : List Rec → List Rec → Rec → Option Reason
 bind_fault ds gs b = fault true ds gs b true
 
 -- of Add Bind, by its payload
-unfoldable pub add_fault : List Rec → List Rec → List Rec → List ℕ → Reason
+unfoldable pub add_fault : List Rec → List Rec → List Rec → List ℕ → Option Reason
 add_fault ds bs gs p = fault (eqb (length p) (size Binds)) ds gs (bind_of p) (not (any (matches 0 (bind_of p)) (used bs)))

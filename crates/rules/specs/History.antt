@@ -1,14 +1,13 @@
 -- Condition 3's words, read from the calls and their answers alone: a run, its history, what stands, what is linked, what is counted.
 -- Nothing here looks into a table, and nothing of what a call does to a table is used to say what it adds or withdraws: a payload is told in numbers here,
 -- where the tables compare octets. A message's fields and command, and the places of a record's fields, are those of condition 2 (docs/DECISIONS.md, 20).
-use Rattle.std.specs.Prelude.{◌≡◌, Bool, true, false, cond, not, ◌||◌, List, [], ◌∷◌, ◌++◌, ℕ, ◌+◌, eqb, length, drop}
+use Rattle.std.specs.Prelude.{◌≡◌, Bool, true, false, cond, not, ◌||◌, List, [], ◌∷◌, ◌++◌, ℕ, ◌+◌, eqb, length, drop, Option, None, Some}
 use Rattle.words.specs.Names.{concentrator, any_device, any_unit, any_interface, device, group, ok, header_length}
 use Rattle.words.specs.declared.BindPart.TheVariants.{Whole, Source, SourceUnit, Destination, DestinationUnit}
 use Rattle.words.specs.Outcomes.{number_of}
-use Rattle.words.specs.declared.Decoded.TheVariants.{Is, NotServed}
 use Rattle.rules.specs.Types.{DeviceAddress, GroupAddress, Fields, BindAddress, BindPart, Command, AddBind, RemoveBinds, StartSession, EndSession}
-use Rattle.rules.specs.Types.{GetEntries, CreateGroup, DeleteGroup, AddToGroup, RemoveFromGroup, GetGroupInfo, Decoded, Kind, Devices, Binds, Groups}
-use Rattle.rules.specs.Types.{Members, Sessions, Outcome, Reason, NoFault}
+use Rattle.rules.specs.Types.{GetEntries, CreateGroup, DeleteGroup, AddToGroup, RemoveFromGroup, GetGroupInfo, Kind, Devices, Binds, Groups}
+use Rattle.rules.specs.Types.{Members, Sessions, Outcome, Reason}
 use Rattle.rules.specs.Lists.{count, any, all, keep, has, ◌&◌}
 use Rattle.rules.specs.Octets.{octet, word, octets, number, joined, octet_string}
 use Rattle.rules.specs.Units.{unit_number, rising}
@@ -34,7 +33,7 @@ pub data Call : Type 0 where
 -- what a caller is told: the outcome, the reason, and the reply and the list as they come back
 pub record Said : Type 0 where
   pub outcome : Outcome
-  pub reason : Reason
+  pub reason : Option Reason
   pub reply : List ℕ
   pub list : List ℕ
 
@@ -43,7 +42,7 @@ said_by x = record { outcome = x.outcome; reason = x.reason; reply = x.reply; li
 
 -- a host call has no reply and no list, and gives no reason
 abbrev pub said_by_host : HostAnswer → Said
-said_by_host x = record { outcome = x.outcome; reason = NoFault; reply = []; list = [] }
+said_by_host x = record { outcome = x.outcome; reason = None; reply = []; list = [] }
 
 unfoldable pub said : Lent → Call → Said
 said L (sends m r l) = said_by (message L m r l)
@@ -152,9 +151,9 @@ lines AddToGroup p = also Members (adds (member_said p)) silence
 lines RemoveFromGroup p = also Members (withdraws (member_named p)) silence
 lines GetGroupInfo p = silence
 
-unfoldable pub asked : Decoded → List ℕ → Entries
-asked (Is k) p = lines k p
-asked NotServed p = silence
+unfoldable pub asked : Option Command → List ℕ → Entries
+asked (Some k) p = lines k p
+asked None p = silence
 
 -- a call
 unfoldable pub entries : Call → Entries
@@ -272,7 +271,7 @@ pub record Holds (L : Lent) (cs : List Call) : Type 0 where
   -- there is such a list
   pub linked-units : (m : List ℕ) → octet_string m ≡ true → (us : List ℕ) × Exactly (history L cs) (fields m) us
   -- the count of Get Group Info is the history's
-  pub counts : (m r l : List ℕ) → octet_string m ≡ true → command (fields m) ≡ Is GetGroupInfo
+  pub counts : (m r l : List ℕ) → octet_string m ≡ true → command (fields m) ≡ Some GetGroupInfo
       → granted (sends m r l) (said (after L cs) (sends m r l)) ≡ true
       → member_count (said (after L cs) (sends m r l)) ≡ counted (history L cs) (group_said (payload m))
 

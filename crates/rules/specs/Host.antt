@@ -1,5 +1,5 @@
 -- The two host calls (document 01, Outcomes): admit a device with its rights and its set of units, and release a device.
-use Rattle.std.specs.Prelude.{Bool, cond, not, ◌||◌, List, ℕ, eqb}
+use Rattle.std.specs.Prelude.{Bool, cond, not, ◌||◌, List, ℕ, eqb, Ok, Err}
 use Rattle.words.specs.Outcomes.{number_of}
 use Rattle.rules.specs.Types.{DeviceAddress, Devices, Binds, Members, Sessions, Outcome, Done, Unsound, OutOfRange, AlreadyAdmitted, NoFreeRecord}
 use Rattle.rules.specs.Types.{NotAdmitted}
@@ -29,13 +29,13 @@ admitting d rights us = only Devices (store (device_record d rights us))
 -- "Admit: 16, 20, 21, 22, else 0.": those behind 16 ask the devices alone
 unfoldable pub admission : List Rec → DeviceAddress → ℕ → List ℕ → Outcome
 admission ds d rights us =
-    ask (device_in_range d rights us) OutOfRange
-    (ask (not (admitted ds d)) AlreadyAdmitted
-    (ask (some_free ds) NoFreeRecord
-    (Done 0)))
+    ask (device_in_range d rights us) (Err OutOfRange)
+    (ask (not (admitted ds d)) (Err AlreadyAdmitted)
+    (ask (some_free ds) (Err NoFreeRecord)
+    (Ok (Done 0))))
 
 unfoldable pub admit : Lent → DeviceAddress → ℕ → List ℕ → HostAnswer
-admit L d rights us = settled (admitting d rights us) L (ask (sound L) Unsound (admission (tables L Devices) d rights us))
+admit L d rights us = settled (admitting d rights us) L (ask (sound L) (Err Unsound) (admission (tables L Devices) d rights us))
 
 -- does the bind name the device "as source or individual destination"?
 unfoldable pub names_device : DeviceAddress → Rec → Bool
@@ -54,8 +54,8 @@ releasing T d = closing T (taking d)
 
 -- "Release: 16, 23, else 0."
 unfoldable pub release : Lent → DeviceAddress → HostAnswer
-release L d = settled (releasing (tables L) d) L (ask (sound L) Unsound (ask (admitted (tables L Devices) d) NotAdmitted (Done 0)))
+release L d = settled (releasing (tables L) d) L (ask (sound L) (Err Unsound) (ask (admitted (tables L Devices) d) (Err NotAdmitted) (Ok (Done 0))))
 
 -- .. behind 16: 23 asks the devices alone
 unfoldable pub dismissal : List Rec → DeviceAddress → Outcome
-dismissal ds d = ask (admitted ds d) NotAdmitted (Done 0)
+dismissal ds d = ask (admitted ds d) (Err NotAdmitted) (Ok (Done 0))

@@ -1,9 +1,9 @@
 -- The message (document 01, The message; document 003, 7): its fields, when it is refused, and the header of a reply.
-use Rattle.std.specs.Prelude.{Bool, cond, List, ◌∷◌, ◌++◌, ℕ, ◌-◌, ◌%◌, eqb, leb, length, drop}
+use Rattle.std.specs.Prelude.{Bool, cond, List, ◌∷◌, ◌++◌, ℕ, ◌-◌, ◌%◌, eqb, leb, length, drop, Result, Ok, Err}
 use Rattle.words.specs.Names.{no_fields, device, group, concentrator, bind_address, not_a_unit, header_length, payload_place, longest, flag_set}
 use Rattle.words.specs.Names.{command_type, response_type, last_type, response_types}
 use Rattle.words.specs.declared.Destination.{Destination}
-use Rattle.rules.specs.Types.{Fields, Concentrator, BindAddress, Unit, Group, Outcome, Done, WrongLength, WrongDataLength, WrongType, Reading}
+use Rattle.rules.specs.Types.{Fields, Concentrator, BindAddress, Unit, Group, Outcome, Done, WrongLength, WrongDataLength, WrongType, Refusal}
 use Rattle.rules.specs.Lists.{any, ask, ◌&◌}
 use Rattle.rules.specs.Octets.{octet, word, octets, flag, number, joined}
 use Rattle.rules.specs.Units.{unit_number}
@@ -70,7 +70,7 @@ unfoldable pub type_fits : List ℕ → Bool
 type_fits m = leb command_type (message_type_of m) & leb (message_type_of m) last_type
 
 -- "10, 11, 12", then the rest: reading alone, copying and a message all ask this
-unfoldable pub reads : {A : Type 0} → List ℕ → (Outcome → A) → A → A
+unfoldable pub reads : {A : Type 0} → List ℕ → (Refusal → A) → A → A
 reads m refuse rest =
     ask (length_fits m) (refuse WrongLength)
     (ask (data_length_fits m) (refuse WrongDataLength)
@@ -78,11 +78,20 @@ reads m refuse rest =
     rest))
 
 -- "Reading alone: 10, 11, 12 with every field 0, else 0 with the fields and where the payload begins"
+pub record Reading : Type 0 where
+  pub outcome : Outcome
+  pub fields : Fields
+
 abbrev pub reading_of : Outcome → Fields → Reading
 reading_of o f = record { outcome = o; fields = f }
 
+-- the fields, or why there are none
+abbrev pub read_as : Result Fields Refusal → Reading
+read_as (Ok f) = reading_of (Ok (Done 0)) f
+read_as (Err why) = reading_of (Err why) no_fields
+
 unfoldable pub reading : List ℕ → Reading
-reading m = reads m (λ o. reading_of o no_fields) (reading_of (Done 0) (fields m))
+reading m = reads m (λ why. reading_of (Err why) no_fields) (reading_of (Ok (Done 0)) (fields m))
 
 -- The header of fifteen octets that these fields make: reserved bits and transport 0
 

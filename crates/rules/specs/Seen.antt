@@ -1,7 +1,6 @@
 -- What callers see of a chain of calls: each call met its contract, on the tables that the call before it left. And condition 3 of what they saw, and what
 -- they read back, in terms of what was told, of the tables as they now are, and of the contract of one more call.
-use Rattle.std.specs.Prelude.{◌≡◌, true, List, [], ◌∷◌, ◌++◌, map, ℕ, length}
-use Rattle.words.specs.declared.Decoded.TheVariants.{Is}
+use Rattle.std.specs.Prelude.{◌≡◌, true, List, [], ◌∷◌, ◌++◌, map, ℕ, length, Some}
 use Rattle.rules.specs.Types.{StartSession, GetEntries, Filter, GetGroupInfo, Binds}
 use Rattle.rules.specs.Lists.{all}
 use Rattle.rules.specs.Octets.{octet_string}
@@ -38,7 +37,7 @@ pub record SeenHolds (Meets : Contract) (h : List Event) (L : Lent) : Type 0 whe
   -- there is such a list
   pub linked-units : (m : List ℕ) → octet_string m ≡ true → (us : List ℕ) × Exactly h (fields m) us
   -- one more message, Get Group Info and granted, is told the number of members by what was seen
-  pub counts : {m r l : List ℕ} {a : Said} {M : Lent} → Meets L (sends m r l) a M → octet_string m ≡ true → command (fields m) ≡ Is GetGroupInfo
+  pub counts : {m r l : List ℕ} {a : Said} {M : Lent} → Meets L (sends m r l) a M → octet_string m ≡ true → command (fields m) ≡ Some GetGroupInfo
       → granted (sends m r l) a ≡ true → member_count a ≡ counted h (group_said (payload m))
 
 -- what is read back, of what was seen from the tables L₀ on
@@ -49,8 +48,8 @@ pub record SeenReads (Meets : Contract) (L₀ : Lent) (h : List Event) : Type 0 
   pub once : distinct (size Binds) sheet ≡ true
   -- one more message, Start and granted, is told the number of binds that stand
   pub counts : {L M : Lent} {m r l : List ℕ} {a : Said} → Seen Meets L₀ h L → Meets L (sends m r l) a M → octet_string m ≡ true
-      → command (fields m) ≡ Is StartSession → granted (sends m r l) a ≡ true → bind_count a ≡ length (standing Binds h)
+      → command (fields m) ≡ Some StartSession → granted (sends m r l) a ≡ true → bind_count a ≡ length (standing Binds h)
   -- one more message, a read and granted, is told what it asks of the sheet, also after further calls by which its device started no session anew
   pub reads : (later : List Event) (f : Filter) {L M : Lent} {m r l : List ℕ} {a : Said} → Seen Meets L₀ (later ++ h) L → Meets L (sends m r l) a M
-      → all octets_only (calls later) ≡ true → NoStart (fields m).source (calls later) → octet_string m ≡ true → command (fields m) ≡ Is (GetEntries f)
+      → all octets_only (calls later) ≡ true → NoStart (fields m).source (calls later) → octet_string m ≡ true → command (fields m) ≡ Some (GetEntries f)
       → granted (sends m r l) a ≡ true → entries_read a ≡ read_of f (payload m) sheet

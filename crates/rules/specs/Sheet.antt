@@ -1,8 +1,7 @@
 -- What closes a read session, over all calls; and what is read back is the sheet: the fitter compares the binds that a read gives with the binds that
 -- stand by history. Like condition 3 that is read from calls and answers alone (docs/HISTORY.md).
-use Rattle.std.specs.Prelude.{◌≡◌, Bool, true, false, List, [], ◌∷◌, ◌++◌, ℕ, ◌*◌, min, length, take, drop}
+use Rattle.std.specs.Prelude.{◌≡◌, Bool, true, false, List, [], ◌∷◌, ◌++◌, ℕ, ◌*◌, min, length, take, drop, Some}
 use Rattle.words.specs.Names.{header_length}
-use Rattle.words.specs.declared.Decoded.TheVariants.{Is}
 use Rattle.rules.specs.Types.{DeviceAddress, StartSession, GetEntries, Filter, Index, Part, Binds, Sessions}
 use Rattle.rules.specs.Lists.{count, all, keep}
 use Rattle.rules.specs.Octets.{octet, word, octet_string}
@@ -51,7 +50,7 @@ read_of (Part q) p sheet = take most_entries (keep (bind_named q p) sheet)
 
 -- does the device d ask for a session by this call, granted or not?
 abbrev pub Starting : DeviceAddress → Call → Type 0
-Starting d (sends m r l) = (command (fields m) ≡ Is StartSession) × ((fields m).source.0 ≡ d.0)
+Starting d (sends m r l) = (command (fields m) ≡ Some StartSession) × ((fields m).source.0 ≡ d.0)
 Starting d (admits e rights us) = ⊥
 Starting d (releases e) = ⊥
 
@@ -71,12 +70,12 @@ pub record ReadBack (L : Lent) (cs : List Call) : Type 0 where
   pub stands : SameRecords sheet (standing Binds (history L cs))
   pub once : distinct (size Binds) sheet ≡ true
   -- what a granted Start counts is the number of binds that stand
-  pub counts : (m r l : List ℕ) → octet_string m ≡ true → command (fields m) ≡ Is StartSession
+  pub counts : (m r l : List ℕ) → octet_string m ≡ true → command (fields m) ≡ Some StartSession
       → granted (sends m r l) (said (after L cs) (sends m r l)) ≡ true
       → bind_count (said (after L cs) (sends m r l)) ≡ length (standing Binds (history L cs))
   -- what a granted read gives is the sheet's, also where other calls came between, as long as its device started no session anew
   pub reads : (later : List Call) (f : Filter) (m r l : List ℕ) → all octets_only later ≡ true → NoStart (fields m).source later → octet_string m ≡ true
-      → command (fields m) ≡ Is (GetEntries f)
+      → command (fields m) ≡ Some (GetEntries f)
       → granted (sends m r l) (said (after L (later ++ cs)) (sends m r l)) ≡ true
       → entries_read (said (after L (later ++ cs)) (sends m r l)) ≡ read_of f (payload m) sheet
 

@@ -1,10 +1,9 @@
 // The rows of document 01 that are to be run (Rows to try): lengths 500 and 501, a full table and one removal, names of 13 and 14 octets.
-// Each step sends one message over the same tables: steps 0 and 1 the lengths, 2 to 65 the sixty-four binds that fill the table, of which nothing is
-// printed, 66 to 68 a bind more, a removal and that bind again, 69 and 70 the names.
 #![tactic(auto)]
 
 ghost use Rattle.std.specs.Prelude.{◌≡◌, ◌≤◌, length};
 
+use hub::Tables;
 use std::io;
 use std::rt::HostRuntime;
 
@@ -51,54 +50,6 @@ fn name(payload: u8, letters: u8) -> [u8; 501]
     msg
 }
 
-fn message_of(step: u8) -> [u8; 501]
-    ensures { length result ≡ 501 }
-{
-    match step {
-        0 => long(0xE5),
-        1 => long(0xE6),
-        67 => bind(2, 9),
-        68 => bind(1, 64),
-        69 => name(14, 13),
-        70 => name(15, 14),
-        _ => bind(1, step - 2),
-    }
-}
-
-fn length_of(step: u8) -> usize
-    ensures { result ≤ 501 }
-{
-    match step {
-        0 => 500,
-        1 => 501,
-        69 => 29,
-        70 => 30,
-        _ => 23,
-    }
-}
-
-// Writes what was tried, up to its outcome.
-fn write_label(rt: &HostRuntime, step: u8) -> io::Result<()> {
-    match step {
-        0 => print!(rt; "500 octets: outcome "),
-        1 => print!(rt; "501 octets: outcome "),
-        66 => print!(rt; "the 65th bind: outcome "),
-        67 => print!(rt; "one removal: outcome "),
-        68 => print!(rt; "the 65th bind again: outcome "),
-        69 => print!(rt; "a name of 13: outcome "),
-        _ => print!(rt; "a name of 14: outcome "),
-    }
-}
-
-// A line: what was tried, the outcome, and octet 16 of the reply, its code.
-fn say(rt: &HostRuntime, step: u8, outcome: u8, code: u8) -> io::Result<()> {
-    if (step >= 2) & (step < 66) {
-        return Ok(());
-    }
-    write_label(rt, step)?;
-    println!(rt; "{outcome} code {code}")
-}
-
 // Devices 3, with rights, and 4, each with the units 0 to 2; all other records are free.
 fn two_devices() -> [u8; 2304]
     ensures { length result ≡ 2304 }
@@ -110,31 +61,52 @@ fn two_devices() -> [u8; 2304]
     devices
 }
 
+// Sends the first n octets over the tables: the outcome, and octet 16 of the reply, its code.
+fn send(tables: &mut Tables<'_>, octets: &[u8; 501], n: usize) -> (u8, u8)
+    requires { n ≤ 501 }
+{
+    let mut reply = [0u8; 500];
+    let mut list = [0u8; 576];
+    let told = hub::message(tables, &octets[..n], &mut reply, &mut list);
+    (words::number_of(told.map(|t| t.accepted)), reply[15])
+}
+
+// A line: what was tried, the outcome, the code.
+fn try_row(
+    rt: &HostRuntime,
+    tables: &mut Tables<'_>,
+    tried: &str,
+    octets: &[u8; 501],
+    n: usize,
+) -> io::Result<()>
+    requires { n ≤ 501 }
+{
+    let (outcome, code) = send(tables, octets, n);
+    println!(rt; "{tried}: outcome {outcome} code {code}")
+}
+
 fn main(rt: HostRuntime) -> io::Result<()> {
-    let mut devices = two_devices();
+    let devices = two_devices();
     let mut binds = [0xFFu8; 512];
     let mut groups = [0xFFu8; 256];
     let mut members = [0xFFu8; 640];
     let mut sessions = [0xFFu8; 16];
-    let mut reply = [0u8; 500];
-    let mut list = [0u8; 576];
-    let mut step = 0u8;
-    while step < 71 {
-        let msg = message_of(step);
-        let n = length_of(step);
-        let told = hub::message(
-            &mut devices,
-            &mut binds,
-            &mut groups,
-            &mut members,
-            &mut sessions,
-            &msg[..n],
-            &mut reply,
-            &mut list,
-        );
-        let outcome = told.outcome;
-        say(&rt, step, outcome.number(), reply[15])?;
-        step += 1;
+    let mut tables = Tables {
+        devices: &devices,
+        binds: &mut binds,
+        groups: &mut groups,
+        members: &mut members,
+        sessions: &mut sessions,
+    };
+    try_row(&rt, &mut tables, "500 octets", &long(0xE5), 500)?;
+    try_row(&rt, &mut tables, "501 octets", &long(0xE6), 501)?;
+    // sixty-four binds fill the table
+    for uid in 0..64u8 {
+        send(&mut tables, &bind(1, uid), 23);
     }
-    Ok(())
+    try_row(&rt, &mut tables, "the 65th bind", &bind(1, 64), 23)?;
+    try_row(&rt, &mut tables, "one removal", &bind(2, 9), 23)?;
+    try_row(&rt, &mut tables, "the 65th bind again", &bind(1, 64), 23)?;
+    try_row(&rt, &mut tables, "a name of 13", &name(14, 13), 29)?;
+    try_row(&rt, &mut tables, "a name of 14", &name(15, 14), 30)
 }

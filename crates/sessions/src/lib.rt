@@ -91,10 +91,9 @@ pub fn close_all(sessions: &mut [u8], changed: bool)
     requires { length sessions.old % size Sessions ≡ 0 }
     ensures { sessions.new ≡ cond changed (written (size Sessions) (wipe (λ r. true)) sessions.old) sessions.old }
 {
-    if !changed {
-        return;
+    if changed {
+        records::free_matching(sessions, SESSION, 0, &[]);
     }
-    records::free_matching(sessions, SESSION, 0, &[]);
 }
 
 // "a release closes that device's", and all where a bind named it.
@@ -105,7 +104,7 @@ pub fn release(sessions: &mut [u8], device: DeviceAddress, named: bool)
 {
     if named {
         close_all(sessions, named);
-        return;
+    } else {
+        records::free_matching(sessions, SESSION, 0, &layouts::address_octets(device.0));
     }
-    records::free_matching(sessions, SESSION, 0, &layouts::address_octets(device.0));
 }

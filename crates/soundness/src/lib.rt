@@ -1,15 +1,17 @@
 // "Tables are sound if" (document 01, Tables): each rule is one check, over any table.
 #![tactic(auto)]
 
-ghost use Rattle.std.specs.Prelude.{◌≡◌, ◌*◌, ◌<◌, ◌≤◌, length};
+ghost use Rattle.std.specs.Prelude.{◌≡◌, Bool, ◌*◌, ◌<◌, ◌≤◌, length};
 ghost use Rattle.rules.specs.Types.{Devices, Groups};
 ghost use Rattle.rules.specs.Lists.{all};
-ghost use Rattle.rules.specs.Tables.{records, used};
+ghost use Rattle.rules.specs.Tables.{Rec, records, used};
 ghost use Rattle.rules.specs.Layout.{size};
-ghost use Rattle.rules.specs.Frame.{table, lent};
+ghost use Rattle.rules.specs.Frame.{table};
+ghost use Rattle.lent.specs.Held.{viewed};
 ghost use Rattle.rules.specs.Sound.{whole_records, fits, distinct, sound_table, sound};
-ghost use Rattle.soundness.specs.Asking.{free_or, not_again};
+ghost use Rattle.soundness.specs.Asking.{Computes, free_or, not_again};
 
+use lent::View;
 use words::Kind;
 
 // "each length is a multiple of its record size and within the limit"
@@ -20,43 +22,40 @@ pub fn whole_records(given: &[u8], size: usize, most: usize) -> bool
     (given.len() % size == 0) & (given.len() <= most * size)
 }
 
-// "each record is free or has its fields in range"
-fn free_or_fits(kind: Kind, rec: &[u8], devices: &[u8], groups: &[u8]) -> bool
-    requires { length rec.now ≡ size kind }
-    ensures { result ≡ free_or (fits kind (table Devices devices.now) (table Groups groups.now)) rec.now }
+// "each record is free or has its fields in range": does each record in use pass the test?
+pub fn all_used<F: Fn(&[u8]) -> bool>(table: &[u8], size: usize, fits: F) -> bool
+    requires some { 0 < size }
+    requires callable { (r : _) → length r.now ≡ size → F.pre fits r }
+    ensures { (q : Rec → Bool) → Computes F.Fn fits size q → result ≡ all q (used (records size table.now)) }
 {
-    if records::free_at(rec, rec.len(), 0) {
-        return true;
+    for record in table.chunks_exact(size) {
+        if !records::is_free(record) && !fits(record) {
+            return false;
+        }
     }
-    fitting::fits(kind, rec, devices, groups)
+    true
 }
 
-// .. for every record of a table.
+// .. a table of this kind
 fn all_fit(kind: Kind, given: &[u8], devices: &[u8], groups: &[u8]) -> bool
     ensures { result ≡ all (fits kind (table Devices devices.now) (table Groups groups.now))
         (used (table kind given.now)) }
 {
     let shape = layouts::shape_of(kind);
-    let size = shape.size;
-    let mut at = 0;
-    while size <= given.len() - at {
-        if !free_or_fits(kind, records::record_at(given, size, at), devices, groups) {
-            return false;
-        }
-        at += size;
-    }
-    true
+    all_used(given, shape.size, |record| {
+        fitting::fits(kind, record, devices, groups)
+    })
 }
 
 // Is the record free, or do its first `n` octets begin no later record in use?
-fn free_or_last(rec: &[u8], later: &[u8], size: usize, n: usize) -> bool
-    requires { (0 < size) × (n ≤ size) × (length rec.now ≡ size) }
-    ensures { result ≡ free_or (not_again n (records size later.now)) rec.now }
+fn free_or_last(record: &[u8], later: &[u8], size: usize, n: usize) -> bool
+    requires { (0 < size) × (n ≤ size) × (length «record».now ≡ size) }
+    ensures { result ≡ free_or (not_again n (records size later.now)) «record».now }
 {
-    if records::free_at(rec, size, 0) {
+    if records::is_free(record) {
         return true;
     }
-    !records::has(later, size, 0, &rec[..n])
+    !records::has(later, size, 0, &record[..n])
 }
 
 // "no address is there twice in devices or groups, no used record twice in binds or members"
@@ -64,13 +63,12 @@ pub fn distinct(given: &[u8], size: usize, n: usize) -> bool
     requires { (0 < size) × (n ≤ size) }
     ensures { result ≡ distinct n (records size given.now) }
 {
-    let mut at = 0;
-    while size <= given.len() - at {
-        let end = at + size;
-        if !free_or_last(records::record_at(given, size, at), &given[end..], size, n) {
+    let mut rest = given;
+    while let Some((record, later)) = rest.split_at_checked(size) {
+        if !free_or_last(record, later, size, n) {
             return false;
         }
-        at = end;
+        rest = later;
     }
     true
 }
@@ -89,13 +87,15 @@ fn table_sound(kind: Kind, given: &[u8], devices: &[u8], groups: &[u8]) -> bool
 }
 
 // Are the tables sound? A call on tables that are not changes nothing (document 01, Outcomes, 16).
-pub fn sound(devices: &[u8], binds: &[u8], groups: &[u8], members: &[u8], sessions: &[u8]) -> bool
-    ensures { result ≡ sound (lent devices.now binds.now groups.now members.now sessions.now) }
+pub fn sound(tables: View<'_>) -> bool
+    ensures { result ≡ sound (viewed tables.entry) }
 {
+    let devices = tables.devices;
+    let groups = tables.groups;
     let d = table_sound(Kind::Devices, devices, devices, groups);
-    let b = table_sound(Kind::Binds, binds, devices, groups);
+    let b = table_sound(Kind::Binds, tables.binds, devices, groups);
     let g = table_sound(Kind::Groups, groups, devices, groups);
-    let m = table_sound(Kind::Members, members, devices, groups);
-    let s = table_sound(Kind::Sessions, sessions, devices, groups);
+    let m = table_sound(Kind::Members, tables.members, devices, groups);
+    let s = table_sound(Kind::Sessions, tables.sessions, devices, groups);
     d & (b & (g & (m & s)))
 }

@@ -3,5 +3,4 @@ pub mod Units
 pub mod Taking
 pub mod Listing
 pub mod Places
-pub mod Moving
 pub mod Ordering

@@ -1,14 +1,16 @@
 -- Laws of the recipients in a lent list: three octets and the unit's number, reading back what was written, one more recipient.
 use native.Mathlib.Nat.{add-zero, sub-zero}
 use lib.Seq.{drop-append-add, take_at, get_or_at}
+use Rattle.std.specs.List.{list_any, range_with_len}
 use Rattle.words.specs.Basics.{◌≡◌, refl, sym, ap, ◌∙◌, true, false, List, [], ◌∷◌, ◌++◌, flat_map, append-nil, append_assoc, ℕ, zero, suc, ◌+◌, ◌-◌, ◌*◌, ◌/◌}
-use Rattle.words.specs.Basics.{◌%◌, ◌^◌, ◌<◌, ◌≤◌, arith, length, take, drop, get_or, length-drop, length-append, take-append-drop, sets, length-take-le, drop_at}
-use Rattle.words.specs.Basics.{drop-length, drop-drop, get_or-drop, sets-eq}
+use Rattle.words.specs.Basics.{◌%◌, ◌^◌, ◌<◌, ◌≤◌, arith, length, take, drop, get_or, length-drop, length-append, take-append-drop, sets, length-take-le}
+use Rattle.words.specs.Basics.{drop_at, eqb, drop-length, drop-drop, get_or-drop, sets-eq}
 use Rattle.rules.specs.Lists.{has}
 use Rattle.rules.specs.Octets.{word, over}
 use Rattle.rules.specs.Units.{unit_number, unit_at, three_octets, unit_octets}
 use Rattle.rules.proofs.Order.{length-unit_octets}
 use Rattle.units.specs.Listing.{units, added_all, Taken, Enough}
+use Rattle.units.proofs.Units.{has-none, has-cons_found}
 use Rattle.units.proofs.Taking.{added-there, added_new, added_all_grows}
 
 -- Octets written over octets
@@ -120,6 +122,14 @@ units-at i n l h = rw (units_split i n l (omega arith), from_at i n l h) (get_or
 
 pub units_more : (n : ℕ) (l : List ℕ) → units (n + 1) l ≡ units n l ++ unit_at (3 * n) l ∷ []
 units_more n l = units_split n (n + 1) l (omega arith) ∙ rw (from_at n (n + 1) l (omega arith), from_end (n + 1) (n + 1) l (omega arith))
+
+-- whether u is one of them, looked for place by place
+pub has-places : (u n a : ℕ) (l : List ℕ) → list_any (λ i. eqb (unit_at (3 * i) l) u) (range_with_len a n) ≡ has u (units n (drop (3 * a) l))
+unfolding units
+has-places u zero a l = sym (has-none u)
+has-places u (suc n) a l =
+    let k : 3 * (a + 1) ≡ 3 * a + 3 = omega arith in
+    rw (has-cons_found, unit_drop, drop-drop, ← k, has-places u n (a + 1) l)
 
 -- The state of a list: one more unit behind the others
 

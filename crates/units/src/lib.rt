@@ -32,12 +32,5 @@ pub fn listed(list: &[u8], n: usize, u: u32) -> bool
     requires { 3 * n ≤ length list.now }
     ensures { result ≡ has u (units n list.now) }
 {
-    let mut i = 0;
-    while i < n {
-        if layouts::unit_at(list, 3 * i) == u {
-            return true;
-        }
-        i += 1;
-    }
-    false
+    (0..n).any(|i| layouts::unit_at(list, 3 * i) == u)
 }

@@ -1,2 +1,3 @@
 -- What follows from the words alone.
 pub mod Apart
+pub mod Lengths

@@ -1,45 +1,47 @@
 -- The outcomes (document 01, Outcomes): the paper's number of each, and the count or length that goes with it.
-use Rattle.std.specs.Prelude.{ℕ}
-use Rattle.words.specs.declared.Outcome.{Outcome}
-use Rattle.words.specs.declared.Outcome.TheVariants.{Done, Forwarded, Nobody, WrongLength, WrongDataLength, WrongType, NoSource, NoDestination}
-use Rattle.words.specs.declared.Outcome.TheVariants.{ResponseToMany, Unsound, NoRoom, NotServed, NoCopy, OutOfRange, AlreadyAdmitted}
-use Rattle.words.specs.declared.Outcome.TheVariants.{NoFreeRecord, NotAdmitted}
+use Rattle.std.specs.Prelude.{ℕ, ⊤, Result, Ok, Err}
+use Rattle.words.specs.declared.Accepted.{Accepted}
+use Rattle.words.specs.declared.Accepted.TheVariants.{Done, Forwarded, Nobody}
+use Rattle.words.specs.declared.Refusal.{Refusal}
+use Rattle.words.specs.declared.Refusal.TheVariants.{WrongLength, WrongDataLength, WrongType, NoSource, NoDestination, ResponseToMany, Unsound, NoRoom}
+use Rattle.words.specs.declared.Refusal.TheVariants.{NotServed, NoCopy, OutOfRange, AlreadyAdmitted, NoFreeRecord, NotAdmitted}
+
+-- what a public call answers: what it comes to, or why it is refused
+abbrev pub Outcome : Type 0
+Outcome = Result Accepted Refusal
 
 abbrev pub number_of : Outcome → ℕ
-number_of (Done n) = 0
-number_of (Forwarded n) = 1
-number_of Nobody = 2
-number_of WrongLength = 10
-number_of WrongDataLength = 11
-number_of WrongType = 12
-number_of NoSource = 13
-number_of NoDestination = 14
-number_of ResponseToMany = 15
-number_of Unsound = 16
-number_of NoRoom = 17
-number_of NotServed = 18
-number_of NoCopy = 19
-number_of OutOfRange = 20
-number_of AlreadyAdmitted = 21
-number_of NoFreeRecord = 22
-number_of NotAdmitted = 23
+number_of (Ok (Done n)) = 0
+number_of (Ok (Forwarded n)) = 1
+number_of (Ok Nobody) = 2
+number_of (Err WrongLength) = 10
+number_of (Err WrongDataLength) = 11
+number_of (Err WrongType) = 12
+number_of (Err NoSource) = 13
+number_of (Err NoDestination) = 14
+number_of (Err ResponseToMany) = 15
+number_of (Err Unsound) = 16
+number_of (Err NoRoom) = 17
+number_of (Err NotServed) = 18
+number_of (Err NoCopy) = 19
+number_of (Err OutOfRange) = 20
+number_of (Err AlreadyAdmitted) = 21
+number_of (Err NoFreeRecord) = 22
+number_of (Err NotAdmitted) = 23
 
 -- "A returned count or length is 0 unless stated."
 abbrev pub value_of : Outcome → ℕ
-value_of (Done n) = n
-value_of (Forwarded n) = n
-value_of Nobody = 0
-value_of WrongLength = 0
-value_of WrongDataLength = 0
-value_of WrongType = 0
-value_of NoSource = 0
-value_of NoDestination = 0
-value_of ResponseToMany = 0
-value_of Unsound = 0
-value_of NoRoom = 0
-value_of NotServed = 0
-value_of NoCopy = 0
-value_of OutOfRange = 0
-value_of AlreadyAdmitted = 0
-value_of NoFreeRecord = 0
-value_of NotAdmitted = 0
+value_of (Ok (Done n)) = n
+value_of (Ok (Forwarded n)) = n
+value_of (Ok Nobody) = 0
+value_of (Err why) = 0
+
+-- what a call answers that tells no length
+abbrev pub without_length : Result ⊤ Refusal → Outcome
+without_length (Ok x) = Ok (Done 0)
+without_length (Err why) = Err why
+
+-- .. and one that tells its length
+abbrev pub with_length : Result ℕ Refusal → Outcome
+with_length (Ok n) = Ok (Done n)
+with_length (Err why) = Err why

@@ -8,20 +8,23 @@ mod numbers;
 mod outcomes;
 mod reasons;
 
+pub use outcomes::number_of;
+
 // A device's address. D'0001 and G'0001 are the same number and different things (document 01, Tables).
-#[derive(Clone, Copy)]
+#[derive(Clone, Copy, PartialEq, Eq)]
 pub struct DeviceAddress(pub u16);
 
 // A group's address.
-#[derive(Clone, Copy)]
+#[derive(Clone, Copy, PartialEq, Eq)]
 pub struct GroupAddress(pub u16);
 
-// A response code, the first octet of a reply's payload.
-#[derive(Clone, Copy)]
+// A response code, the first octet of a reply's payload. An octet with names, as document 01 asks for it: associated constants and constructors.
+#[derive(Clone, Copy, PartialEq, Eq)]
 pub struct Code(pub u8);
 
-// The fields of a message, in its order (document 01, The message), and the octet where the payload begins, counted from 1.
-#[derive(Clone, Copy)]
+// The fields of a message, in its order (document 01, The message), and the octet where the payload begins, counted from 1. Flags and types are numbers, as
+// C gets all twelve.
+#[derive(Clone, Copy, PartialEq, Eq)]
 pub struct Fields {
     pub source: DeviceAddress,
     pub source_unit: u8,
@@ -38,7 +41,7 @@ pub struct Fields {
 }
 
 // Where a message goes, of the four kinds that document 01 tells apart.
-#[derive(Clone, Copy)]
+#[derive(Clone, Copy, PartialEq, Eq)]
 pub enum Destination {
     // D'0:U'0 and D'7FFF:U'FF, each of individual type
     Concentrator,
@@ -50,7 +53,7 @@ pub enum Destination {
 }
 
 // The octets of a bind that a removal or a read compares.
-#[derive(Clone, Copy)]
+#[derive(Clone, Copy, PartialEq, Eq)]
 pub enum BindPart {
     Whole,
     Source,
@@ -60,14 +63,14 @@ pub enum BindPart {
 }
 
 // Which binds a Get Bind Entries command asks for: by their index, or by a part, which is never the whole.
-#[derive(Clone, Copy)]
+#[derive(Clone, Copy, PartialEq, Eq)]
 pub enum Filter {
     Index,
     Part(BindPart),
 }
 
 // The commands of the two services.
-#[derive(Clone, Copy)]
+#[derive(Clone, Copy, PartialEq, Eq)]
 pub enum Command {
     AddBind,
     RemoveBinds(BindPart),
@@ -81,15 +84,8 @@ pub enum Command {
     GetGroupInfo,
 }
 
-// What a message to the concentrator asks for: one of the commands, or what is not served.
-#[derive(Clone, Copy)]
-pub enum Decoded {
-    Is(Command),
-    NotServed,
-}
-
 // The tables.
-#[derive(Clone, Copy)]
+#[derive(Clone, Copy, PartialEq, Eq)]
 pub enum Kind {
     Devices,
     Binds,
@@ -98,12 +94,17 @@ pub enum Kind {
     Sessions,
 }
 
-// What a public call answers (document 01, Outcomes). `Done` holds a length, `Forwarded` the number of recipients.
-#[derive(Clone, Copy)]
-pub enum Outcome {
+// What a call that is not refused comes to (document 01, Outcomes). `Done` holds a length, `Forwarded` the number of recipients.
+#[derive(Clone, Copy, PartialEq, Eq)]
+pub enum Accepted {
     Done(usize),
     Forwarded(usize),
     Nobody,
+}
+
+// Why a call is refused (document 01, Outcomes).
+#[derive(Clone, Copy, PartialEq, Eq)]
+pub enum Refusal {
     WrongLength,
     WrongDataLength,
     WrongType,
@@ -120,10 +121,12 @@ pub enum Outcome {
     NotAdmitted,
 }
 
-// What is wrong with an Add Bind that is answered 0x02 (document 02, request 6). `NoFault` is told with any other code or outcome.
-#[derive(Clone, Copy)]
+// What a public call answers.
+pub type Outcome = Result<Accepted, Refusal>;
+
+// What is wrong with an Add Bind that is answered 0x02 (document 02, request 6).
+#[derive(Clone, Copy, PartialEq, Eq)]
 pub enum Reason {
-    NoFault,
     PayloadLength,
     NoSourceDevice,
     NoSourceUnit,
@@ -135,24 +138,16 @@ pub enum Reason {
     AlreadyPresent,
 }
 
-// What a message comes to: refused, a command, or a message to hand on.
-#[derive(Clone, Copy)]
+// What a message that is not refused comes to: a command, or a message to hand on.
+#[derive(Clone, Copy, PartialEq, Eq)]
 pub enum Way {
-    Refuse(Outcome),
     Serve(Command),
     Forward(Destination),
 }
 
-// What handling a message gives, beside what it writes.
-#[derive(Clone, Copy)]
+// What handling a message that is not refused gives, beside what it writes. There is a reason only where an Add Bind is answered 0x02.
+#[derive(Clone, Copy, PartialEq, Eq)]
 pub struct Told {
-    pub outcome: Outcome,
-    pub reason: Reason,
-}
-
-// What reading a message gives.
-#[derive(Clone, Copy)]
-pub struct Reading {
-    pub outcome: Outcome,
-    pub fields: Fields,
+    pub accepted: Accepted,
+    pub reason: Option<Reason>,
 }

@@ -1,5 +1,5 @@
-// The paper's number of a reason, and the octet of the payload that goes with it (document 02, request 6).
-ghost use Rattle.std.specs.Prelude.{◌≡◌};
+// The paper's number of a reason, and the octet of the payload that goes with it (document 02, request 6). Both are octets: a `From` could be only one.
+ghost use Rattle.std.specs.Prelude.{◌≡◌, Some};
 ghost use Rattle.words.specs.Reasons.{reason_number, reason_octet};
 
 use crate::Reason;
@@ -7,10 +7,9 @@ use crate::Reason;
 impl Reason {
     // The paper's number.
     pub fn number(self) -> u8
-        ensures { result ≡ reason_number self }
+        ensures { result ≡ reason_number (Some self) }
     {
         match self {
-            Reason::NoFault => 0,
             Reason::PayloadLength => 1,
             Reason::NoSourceDevice => 2,
             Reason::NoSourceUnit => 3,
@@ -25,10 +24,9 @@ impl Reason {
 
     // "the first octet of the payload concerned", counted from 1; 0 for its length.
     pub fn octet(self) -> u8
-        ensures { result ≡ reason_octet self }
+        ensures { result ≡ reason_octet (Some self) }
     {
         match self {
-            Reason::NoFault => 0,
             Reason::PayloadLength => 0,
             Reason::NoSourceDevice => 1,
             Reason::NoSourceUnit => 3,

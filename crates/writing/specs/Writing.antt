@@ -1,9 +1,10 @@
--- Text as ASCII octets: digits, and pieces written into a buffer.
+-- Text as ASCII octets: digits, and pieces written into a lent buffer.
 use Prim.Native.Char.{code}
 use Prim.Native.String.{String, [] as empty, ◌∷◌ as ◌then◌}
 use Rattle.std.specs.Prelude.{◌≡◌, cond, List, [], ◌∷◌, ◌++◌, ℕ, zero, suc, ◌+◌, ◌-◌, ◌/◌, ◌%◌, ◌≤◌, ltb, length}
 use Rattle.std.proofs.lemmas.List.Edits.{sets}
 use Rattle.rules.specs.Octets.{over}
+use Rattle.writing.specs.declared.Text.{Text}
 
 -- a text's octets
 abbrev pub ascii : String → List ℕ
@@ -34,11 +35,16 @@ decimal n = digits 20 n
 abbrev pub field : List ℕ → ℕ → List ℕ
 field word n = word ++ decimal n
 
--- a piece that fits stands in the text from `at` on, and `next` is the place behind it
-pub record Wrote (piece old : List ℕ) (at next : ℕ) (new : List ℕ) : Type 0 where
-  pub fits : at + length piece ≤ length old
-  pub place : next ≡ at + length piece
-  pub text : new ≡ sets old at piece
+-- a piece that fits was written behind the text, in the same buffer
+pub record Wrote (piece : List ℕ) (t u : Text) : Type 0 where
+  pub buffer : u.octets.ghost_name ≡ t.octets.ghost_name
+  pub fits : t.at + length piece ≤ length t.octets.now
+  pub place : u.at ≡ t.at + length piece
+  pub text : u.octets.now ≡ sets t.octets.now t.at piece
+
+-- n octets more have room
+abbrev pub HasRoom : ℕ → Text → Type 0
+HasRoom n t = t.at + n ≤ length t.octets.now
 
 -- a whole text stands over what the buffer held, and n is its length
 abbrev pub Printed : List ℕ → List ℕ → ℕ → List ℕ → Type 0

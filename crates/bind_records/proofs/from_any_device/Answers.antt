@@ -4,4 +4,4 @@ use Rattle.bind_records.proofs.from_any_device.Goals as goal
 
 pub returns : goal.returns
 unfolding from_any_device
-returns c = rw c.bind_source-source.ensures
+returns c = rw (c.eq.ensures, c.bind_source.ensures)

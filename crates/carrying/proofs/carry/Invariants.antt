@@ -1,10 +1,8 @@
 -- `carrying::carry`: what is left to carry over gives the table.
-use Rattle.words.specs.Basics.{◌-◌, length}
+use Rattle.std.specs.Slice.Iter.{chunks_exact_rest, chunks_exact_size}
 use Rattle.carrying.proofs.OneByOne.{Carrying}
 use Rattle.carrying.proofs.carry.Given as goal
 
-abbrev pub invariant-loop-at : goal.invariant-loop-at
-invariant-loop-at l = Carrying l.old l.initial.new l.new l.at l.to
-
-abbrev pub decreases-loop-at : goal.decreases-loop-at
-decreases-loop-at l = length l.old - l.at
+abbrev pub invariant-loop-i : goal.invariant-loop-i
+invariant-loop-i l =
+    Carrying l.old l.initial.new l.new (chunks_exact_rest l.i-iterator.iter) (chunks_exact_size l.i-iterator.iter) l.i-iterator.count

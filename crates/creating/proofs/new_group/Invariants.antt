@@ -2,8 +2,5 @@
 use Rattle.creating.proofs.Smallest.{Numbering}
 use Rattle.creating.proofs.new_group.Given as goal
 
-abbrev pub invariant-loop-left : goal.invariant-loop-left
-invariant-loop-left l = Numbering l.groups l.address l.left
-
-abbrev pub decreases-loop-left : goal.decreases-loop-left
-decreases-loop-left l = l.left
+abbrev pub invariant-loop-address : goal.invariant-loop-address
+invariant-loop-address l = Numbering l.groups l.address l.last

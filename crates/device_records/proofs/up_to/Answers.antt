@@ -1,18 +1,13 @@
--- The loop of `up_to`: each octet written keeps what is left to write, and at the end nothing is left.
-use Rattle.words.specs.Basics.{ap, ◌∙◌, arith}
-use Rattle.rules.specs.Layout.{low_bits}
-use Rattle.rules.proofs.UnitSets.{among-most}
-use Rattle.device_records.proofs.Filling.{filling_start, filling_more, filling_end}
+-- What `up_to` returns: each call of the closure, at an index below 32, gives the octet of that index.
+use Rattle.words.specs.Basics.{◌≡◌, refl, arith}
+use Rattle.std.proofs.Common.{rules}
+use Rattle.std.proofs.lemmas.Fn.{serves_by}
+use Rattle.device_records.proofs.Made.{made_up_to}
 use Rattle.device_records.proofs.up_to.Goals as goal
 
-pub loop-i-init : goal.loop-i-init
-loop-i-init c = filling_start
-
-pub low_bits-requires : goal.low_bits-requires
-low_bits-requires c = rw c.among.ensures (among-most c.args.top c.loop-i.i)
-
-pub loop-i-preserved : goal.loop-i-preserved
-loop-i-preserved c = filling_more c.loop-i.invariant (omega arith) (c.low_bits.ensures ∙ ap low_bits c.among.ensures)
+pub from_fn-requires : goal.from_fn-requires
+from_fn-requires c =
+    (omega arith, serves_by _ (λ xs q. q.0.now ≡ c.args.top) (λ xs q x v h e. search rules) _ _ _ _ refl (λ xs t q x u y s j. search rules))
 
 pub returns : goal.returns
-returns c = filling_end c.loop-i.invariant (omega arith)
+returns c = made_up_to _ (λ q. q.0.now ≡ c.args.top) c.args.top (λ f i y q k e. search rules) refl c.from_fn.ensures.items

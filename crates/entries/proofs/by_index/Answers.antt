@@ -5,4 +5,4 @@ use Rattle.entries.proofs.by_index.Goals as goal
 
 pub returns : goal.returns
 returns c =
-    rw (← any-bind c.args.payload.now _ c.word_at-index.ensures (c.smaller-most.ensures ∙ rw c.wide.ensures) refl) c.write_listing.ensures
+    rw (← any-bind c.args.payload.now _ c.word_at-index.ensures c.min-most.ensures refl) c.write_listing.ensures

@@ -1,14 +1,12 @@
--- `entries::write_entries`: what is left to write gives the whole.
-use Rattle.std.proofs.Common.{◌-◌}
-use Rattle.words.specs.Basics.{length}
+-- `entries::write_entries`: the binds that are yet to come are to be written behind those that are.
 use Rattle.rules.specs.Types.{Binds}
 use Rattle.rules.specs.Tables.{matches}
 use Rattle.rules.specs.Layout.{size}
-use Rattle.entries.proofs.Entering.{Writing}
+use Rattle.rules.specs.Frame.{table}
+use Rattle.rules.specs.Sessions.{chosen}
+use Rattle.entries.proofs.Entering.{Entering}
 use Rattle.entries.proofs.write_entries.Given as goal
 
-abbrev pub invariant-loop-at : goal.invariant-loop-at
-invariant-loop-at l = Writing (matches l.from l.want) (size Binds) l.most l.binds l.initial.out l.out l.at l.count
-
-abbrev pub decreases-loop-at : goal.decreases-loop-at
-decreases-loop-at l = length l.binds - l.at
+abbrev pub invariant-loop-entry : goal.invariant-loop-entry
+invariant-loop-entry l = Entering (goal.iterator-loop-entry).next_gives
+    (size Binds) (chosen l.fn.index l.fn.most (matches l.fn.from l.fn.want) (table Binds l.fn.binds)) l.initial.out l.out l.count l.entry-iterator

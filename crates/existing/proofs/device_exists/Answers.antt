@@ -1,12 +1,12 @@
 -- What `device_exists` returns: the concentrator is none of the table's.
-use Rattle.words.specs.Basics.{eq-eqb, ne_eqb}
+use Rattle.words.specs.Basics.{sym, ◌∙◌}
 use Rattle.rules.specs.Exists.{device_exists}
 use Rattle.existing.proofs.device_exists.Goals as goal
 
-pub returns-then-device : goal.returns-then-device
+pub returns-then-eq : goal.returns-then-eq
 unfolding device_exists
-returns-then-device c = rw (eq-eqb _ _ c.if-device.true)
+returns-then-eq c = c.if-eq.true ∙ rw (sym c.eq.ensures ∙ c.if-eq.true)
 
-pub returns : goal.returns
+pub returns-else-eq : goal.returns-else-eq
 unfolding device_exists
-returns c = rw (ne_eqb _ _ c.if-device.false) c.is_admitted.ensures
+returns-else-eq c = rw (sym c.eq.ensures ∙ c.if-eq.false) c.is_admitted.ensures

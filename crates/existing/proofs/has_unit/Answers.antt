@@ -1,19 +1,17 @@
--- The loop of `has_unit`: the record tested decides or makes no difference, and at the end none is left.
-use Rattle.words.specs.Basics.{sym, ◌∙◌, arith}
-use Rattle.rules.specs.Lists.{any, keep}
-use Rattle.rules.specs.Tables.{used}
-use Rattle.rules.proofs.Records.{walking_more, walking_hit, walking_end}
-use Rattle.records.proofs.Search.{any_hit, any_miss}
+-- What `has_unit` returns: each record of the table is tested.
+use Rattle.std.proofs.Common.{rules, tests}
+use Rattle.std.proofs.lemmas.Iterator.Search.{any_from_yields_List}
+use Rattle.words.specs.Basics.{◌∙◌, arith}
+use Rattle.rules.specs.Types.{Devices}
+use Rattle.rules.specs.Layout.{size}
+use Rattle.rules.specs.Exists.{has_unit}
+use Rattle.records.specs.Search.{passes}
+use Rattle.records.proofs.Walks.{records-yielded}
+use Rattle.existing.proofs.Walk.{list_any-used}
 use Rattle.existing.proofs.has_unit.Goals as goal
 
-pub returns-then-unit_at : goal.returns-then-unit_at
-returns-then-unit_at c =
-    walking_hit c.loop-at.invariant (omega arith) (omega arith) (any_hit _ _ _ (sym c.unit_at.ensures ∙ c.if-unit_at.true))
-
-pub loop-at-preserved : goal.loop-at-preserved
-loop-at-preserved c =
-    walking_more c.loop-at.invariant (omega arith) (omega arith) (any_miss _ _ _ (sym c.unit_at.ensures ∙ c.if-unit_at.false))
-
 pub returns : goal.returns
-unfolding any used keep
-returns c = walking_end c.loop-at.invariant (omega arith)
+returns c =
+    let a = c.args in
+    let all = records-yielded (size Devices) a.devices.now (omega arith) c.chunks_exact.ensures.rest c.chunks_exact.ensures.size in
+    any_from_yields_List (passes (has_unit a.device a.unit)) _ _ c.any.result c.any.ensures.ran all (λ x b q k. search (rules, tests)) ∙ list_any-used _ _

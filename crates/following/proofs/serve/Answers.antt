@@ -8,7 +8,7 @@ use Rattle.following.proofs.serve.Goals as goal
 pub write_header-requires : goal.write_header-requires
 write_header-requires c =
     let short : header_length + c.perform-done.result.length ≤ longest = performed_short _ c.args.command c.args.f c.args.payload.now c.args.reply.now
-    c.requires.room c.perform-done.auto.out (c.perform-done.ensures c.requires.tables.lent).0 in (
+    c.requires.room c.perform-done.auto.out c.perform-done.ensures.performed in (
       rw (same_len_mid header_length _ c.args.reply.now _ c.perform-done.auto.out) (omega (arith, c.requires.room)),
       omega arith,
       c.requires.request,
@@ -17,11 +17,11 @@ write_header-requires c =
 pub overflow_add-result : goal.overflow_add-result
 overflow_add-result c =
     let short : header_length + c.perform-done.result.length ≤ longest = performed_short _ c.args.command c.args.f c.args.payload.now c.args.reply.now
-    c.requires.room c.perform-done.auto.out (c.perform-done.ensures c.requires.tables.lent).0 in
+    c.requires.room c.perform-done.auto.out c.perform-done.ensures.performed in
     omega arith
 
-pub returns : goal.returns
-returns c = λ L.
+pub returns-clause-serves : goal.returns-clause-serves
+returns-clause-serves c =
     rw c.write_header.ensures
-    (serves _ c.args.command c.args.f c.args.payload.now c.args.reply.now c.requires.room c.perform-done.auto.out
-    (c.perform-done.ensures L).0 (c.perform-done.ensures L).1)
+    (serves _ c.args.command c.args.f c.args.payload.now c.args.reply.now c.requires.room c.perform-done.auto.out c.perform-done.ensures.performed
+    c.perform-done.ensures.reason)

@@ -5,7 +5,7 @@ use Rattle.group_commands.proofs.free_group.Goals as goal
 pub returns : goal.returns
 returns c =
     let address = c.address_octets-address.ensures in (
-      binds_freed _ _ c.flagged.ensures c.address_octets-flagged.ensures c.free_matching.ensures,
+      binds_freed _ _ c.flagged_octets-flagged.ensures c.free_matching.ensures,
       address_freed _ _ _ address c.free_matching-2.ensures,
       address_freed _ _ _ address c.free_matching-3.ensures,
     )

@@ -3,4 +3,4 @@ use Rattle.group_commands.proofs.Grouped.{bound_found}
 use Rattle.group_commands.proofs.is_bound.Goals as goal
 
 pub returns : goal.returns
-returns c = rw (← c.group_named-group.ensures.0) (bound_found _ _ c.flagged.ensures c.address_octets-flagged.ensures c.has.ensures)
+returns c = rw (← c.group_named.ensures.0) (bound_found _ _ c.flagged_octets-flagged.ensures c.has.ensures)

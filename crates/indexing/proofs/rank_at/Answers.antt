@@ -8,4 +8,4 @@ pub returns : goal.returns
 unfolding rank entry_rank
 returns c =
     let e = entry_at c.args.position c.args.binds.now c.requires in
-    (rw (c.bind_key.ensures.0, c.bind_at.ensures, c.wide-at.ensures, e) (omega arith), omega (arith, c.bind_key.ensures.1))
+    (rw (c.bind_key.ensures.0, c.bind_at.ensures, e) (omega arith), omega (arith, c.bind_key.ensures.1))

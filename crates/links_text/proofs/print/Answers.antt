@@ -5,4 +5,4 @@ use Rattle.links_text.proofs.print.Goals as goal
 pub returns-then-input-lt-AT_MESSAGE : goal.returns-then-input-lt-AT_MESSAGE
 returns-then-input-lt-AT_MESSAGE c =
     let short = c.if-input-lt-AT_MESSAGE.true in
-    (rw (← short_text_lem _ short) c.write_short-n.ensures, short_reason _ short)
+    (rw (← short_text_lem _ short) c.write_short-length.ensures, short_reason _ short)

@@ -6,4 +6,4 @@ use Rattle.matching.proofs.is_member.Goals as goal
 
 pub returns : goal.returns
 unfolding passes addressed
-returns c = c.matches_at.ensures ∙ rw c.address_octets.ensures
+returns c = c.is_match.ensures ∙ rw c.address_octets.ensures

@@ -1,13 +1,14 @@
--- What is left to test gives the answer at each turn and at the end.
-use Rattle.words.specs.Basics.{arith}
-use Rattle.octets.proofs.Runs.{testing_more, testing_stop, testing_end}
+-- `octets::all_at` meets its contract.
+use Rattle.std.proofs.Common.{rules, tests}
+use Rattle.std.proofs.lemmas.Iterator.{YieldsList-from_slice}
+use Rattle.std.proofs.lemmas.Iterator.Search.{all_from_yields_List}
+use Rattle.words.specs.Basics.{◌≡◌, ◌∙◌, ◌+◌, ◌-◌, eqb, arith}
+use Rattle.octets.proofs.Runs.{all-list_all}
 use Rattle.octets.proofs.all_at.Goals as goal
 
-pub returns-then-s-at : goal.returns-then-s-at
-returns-then-s-at c = testing_stop c.loop-j.invariant (omega arith) c.if-s-at.true
-
-pub loop-j-preserved : goal.loop-j-preserved
-loop-j-preserved c = testing_more c.loop-j.invariant (omega arith) c.if-s-at.false
-
 pub returns : goal.returns
-returns c = testing_end c.loop-j.invariant (omega arith)
+returns c =
+    let a = c.args in
+    let n : a.at + a.n - a.at ≡ a.n = omega arith in
+    let part = YieldsList-from_slice _ c.iter.ensures.rest in
+    rw n at (all_from_yields_List (λ o. eqb o a.value) _ _ c.all.result c.all.ensures.ran part (λ x b q k. search (rules, tests))) ∙ all-list_all _ _

@@ -1,21 +1,14 @@
--- `records::has_room` meets its contract: a free record decides, and one in use makes no difference.
-use Rattle.words.specs.Basics.{sym, ◌∙◌, arith}
-use Rattle.rules.specs.Lists.{any}
-use Rattle.rules.specs.Tables.{some_free}
-use Rattle.rules.proofs.Records.{walking_start, walking_more, walking_hit, walking_end}
+-- `records::has_room` meets its contract: the chain asks each record.
+use Rattle.std.proofs.Common.{rules, tests}
+use Rattle.std.proofs.lemmas.Iterator.Search.{any_from_yields_List}
+use Rattle.words.specs.Basics.{◌∙◌}
+use Rattle.rules.specs.Tables.{is_free, some_free}
+use Rattle.records.proofs.Search.{any-list_any}
+use Rattle.records.proofs.Walks.{records-yielded}
 use Rattle.records.proofs.has_room.Goals as goal
 
-pub loop-at-init : goal.loop-at-init
-loop-at-init c = walking_start
-
-pub returns-then-free_at : goal.returns-then-free_at
-unfolding some_free any
-returns-then-free_at c = walking_hit c.loop-at.invariant (omega arith) (omega arith) (rw (sym c.free_at.ensures ∙ c.if-free_at.true))
-
-pub loop-at-preserved : goal.loop-at-preserved
-unfolding some_free any
-loop-at-preserved c = walking_more c.loop-at.invariant (omega arith) (omega arith) (rw (sym c.free_at.ensures ∙ c.if-free_at.false))
-
 pub returns : goal.returns
-unfolding some_free any
-returns c = walking_end c.loop-at.invariant (omega arith)
+unfolding some_free
+returns c =
+    let all = records-yielded c.args.size c.args.table.now c.requires c.chunks_exact.ensures.rest c.chunks_exact.ensures.size in
+    any_from_yields_List is_free _ _ c.any.result c.any.ensures.ran all (λ x b q k. search (rules, tests)) ∙ any-list_any _ _

@@ -1,22 +1,23 @@
--- `records::store` meets its contract: a record in use stays, and the first free one takes the new one.
-use Rattle.words.specs.Basics.{refl, sym, ◌∙◌, arith}
+-- `records::store` meets its contract: the first free record takes the new one.
+use Rattle.words.specs.Basics.{sym, ap, ◌∙◌, arith}
 use Rattle.rules.specs.Tables.{written}
-use Rattle.rules.proofs.Records.{changing_start, changing_miss, changing_end, put_miss, put_end, put-done}
+use Rattle.records.proofs.Search.{place_first}
+use Rattle.records.proofs.Storing.{stored, put-place}
 use Rattle.records.proofs.store.Goals as goal
 
-pub loop-table-init : goal.loop-table-init
-loop-table-init c = changing_start c.requires.1
+pub write_at-requires : goal.write_at-requires
+write_at-requires c = omega (arith, (place_first _ _ _ (sym c.first_free.ensures ∙ c.in-Some.is)).0)
 
-pub loop-table-preserved : goal.loop-table-preserved
-loop-table-preserved c =
-    changing_miss c.loop-table.invariant (omega arith) (omega arith) (put_miss _ _ _ (sym c.free_at-free.ensures ∙ c.if-free.false)) refl
-
-pub returns-then-free : goal.returns-then-free
+pub returns-in-Some : goal.returns-in-Some
 unfolding written
-returns-then-free c =
-    c.write_at.ensures
-    ∙ put-done c.args.«record».now c.requires.2 c.loop-table.invariant (omega arith) (omega arith) (sym c.free_at-free.ensures ∙ c.if-free.true)
+returns-in-Some c =
+    let a = c.args in
+    let e = ap (stored a.«record».now a.table.now) (sym c.first_free.ensures ∙ c.in-Some.is) in
+    c.write_at.ensures ∙ sym e ∙ put-place a.«record».now a.size a.table.now c.requires.0 c.requires.2 c.requires.1
 
-pub returns : goal.returns
+pub returns-in_default : goal.returns-in_default
 unfolding written
-returns c = changing_end c.loop-table.invariant (omega arith) (put_end _)
+returns-in_default c =
+    let a = c.args in
+    let e = ap (stored a.«record».now a.table.now) (sym c.first_free.ensures ∙ c.in_default.is) in
+    sym e ∙ put-place a.«record».now a.size a.table.now c.requires.0 c.requires.2 c.requires.1

@@ -1,10 +1,10 @@
--- `reindexing::insert_at` meets its contract. What is left to move gives the octets.
-use Rattle.words.specs.Basics.{arith}
-use Rattle.reindexing.proofs.Moving.{shifting_more, shifting_end}
+-- `reindexing::insert_at` meets its contract.
+use Rattle.words.specs.Basics.{◌∙◌, ap, arith, set}
+use Rattle.reindexing.proofs.Moving.{put_in_place, put_in_past}
 use Rattle.reindexing.proofs.insert_at.Goals as goal
 
-pub loop-i-preserved : goal.loop-i-preserved
-loop-i-preserved c = shifting_more c.loop-i.invariant (omega arith)
+pub returns-then-all-at : goal.returns-then-all-at
+returns-then-all-at c = put_in_past c.args.at c.args.v c.args.index.now (omega arith)
 
 pub returns : goal.returns
-returns c = shifting_end c.loop-i.invariant (omega arith)
+returns c = ap (λ s. set s c.args.at c.args.v) c.copy_within.ensures.after ∙ put_in_place c.args.at c.args.v c.args.index.now (omega arith)

@@ -2,6 +2,6 @@
 use Rattle.rules.specs.Tables.{matches}
 use Rattle.sessions.proofs.close_all.Goals as goal
 
-pub returns : goal.returns
+pub returns-then-changed : goal.returns-then-changed
 unfolding matches
-returns c = rw c.if-not-changed.false c.free_matching.ensures
+returns-then-changed c = rw c.if-changed.true c.free_matching.ensures

@@ -2,6 +2,6 @@
 use Rattle.rules.specs.Tables.{addressed}
 use Rattle.sessions.proofs.release.Goals as goal
 
-pub returns : goal.returns
+pub returns-else-named : goal.returns-else-named
 unfolding addressed
-returns c = rw c.if-named.false (rw c.address_octets.ensures at c.free_matching.ensures)
+returns-else-named c = rw c.if-named.false (rw c.address_octets.ensures at c.free_matching.ensures)

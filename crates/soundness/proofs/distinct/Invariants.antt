@@ -1,11 +1,11 @@
--- The loop of `distinct`: the records that are left decide.
-use Rattle.words.specs.Basics.{◌-◌, length}
+-- The records that are left decide.
+use Rattle.words.specs.Basics.{◌≡◌, length}
 use Rattle.rules.specs.Sound.{distinct}
-use Rattle.rules.proofs.Records.{Walking}
+use Rattle.rules.specs.Tables.{records}
 use Rattle.soundness.proofs.distinct.Given as goal
 
-abbrev pub invariant-loop-at : goal.invariant-loop-at
-invariant-loop-at l = Walking (distinct l.n) l.size l.given l.at
+abbrev pub invariant-loop-record : goal.invariant-loop-record
+invariant-loop-record l = distinct l.n (records l.size l.rest) ≡ distinct l.n (records l.size l.given)
 
-abbrev pub decreases-loop-at : goal.decreases-loop-at
-decreases-loop-at l = length l.given - l.at
+abbrev pub decreases-loop-record : goal.decreases-loop-record
+decreases-loop-record l = length l.rest

@@ -1,14 +1,14 @@
--- `indexing::count_between` meets its contract. The entry in the middle tells on which side of it the number is.
-use Rattle.words.specs.Basics.{arith}
-use Rattle.index_rules.proofs.Entries.{halving_pass, halving_fail}
+-- `indexing::count_between` meets its contract. The entries with a lower rank stand first.
+use Rattle.std.proofs.Common.{rules, tests}
+use Rattle.std.proofs.lemmas.List.Sorted.{IsPartitionPoint-from_clause}
+use Rattle.rules.specs.Types.{Binds}
+use Rattle.rules.specs.Frame.{table}
+use Rattle.index_rules.specs.Walks.{below}
+use Rattle.indexing.proofs.Halving.{lower_first, cut_is}
 use Rattle.indexing.proofs.searching.count_between.Goals as goal
 
-pub loop-lo-preserved-then-is_below : goal.loop-lo-preserved-then-is_below
-loop-lo-preserved-then-is_below c =
-    let h = halving_pass c.requires.0 c.args.rank (omega (arith, c.loop-lo.invariant.2)) c.is_below.ensures c.if-is_below.true in
-    (omega (arith, h), c.loop-lo.invariant.1, c.loop-lo.invariant.2)
-
-pub loop-lo-preserved : goal.loop-lo-preserved
-loop-lo-preserved c =
-    let h = halving_fail c.requires.0 c.args.rank (omega (arith, c.loop-lo.invariant.2)) c.is_below.ensures c.if-is_below.false in
-    (c.loop-lo.invariant.0, h, omega (arith, c.loop-lo.invariant.2))
+pub returns : goal.returns
+returns c =
+    cut_is c.requires.0 c.args.rank c.args.from c.args.to c.requires.3 c.requires.1 c.requires.2 c.partition_point.ensures.bound
+    (IsPartitionPoint-from_clause (below (table Binds c.args.binds.now) c.args.rank) _ _ c.partition_point.ensures.partitioned
+    (lower_first c.requires.0 c.args.rank c.args.from c.args.to c.requires.3) (λ a r f' k. search (rules, tests)))

@@ -1,8 +1,0 @@
--- `decoding::read_command` meets its contract: one command after the other, at most as many as `depth` says.
-use Rattle.rules.specs.Payloads.{read_command}
-use Rattle.decoding.proofs.Decoding.{then_rest}
-use Rattle.decoding.proofs.read_command.Goals as goal
-
-pub returns : goal.returns
-unfolding read_command
-returns c = search then_rest depth 32

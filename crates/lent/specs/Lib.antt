@@ -1,0 +1,2 @@
+-- What the tables hold, where they are lent as one value.
+pub mod Held
