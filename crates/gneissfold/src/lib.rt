@@ -3,12 +3,12 @@
 // No call requires anything: each answers on any octets and any lengths. Arguments are C's: slices one by one, numbers, and places to write to.
 #![tactic(auto)]
 
-ghost use Rattle.std.specs.Prelude.{◌≡◌, List, ℕ};
+ghost use Rattle.std.specs.Prelude.{◌≡◌};
 ghost use Rattle.words.specs.Names.{device};
-ghost use Rattle.words.specs.Outcomes.{number_of, without_length};
+ghost use Rattle.words.specs.Outcomes.{number_of, value_of, without_length};
 ghost use Rattle.words.specs.Reasons.{reason_number, reason_octet};
-ghost use Rattle.rules.specs.Frame.{Lent, lent};
-ghost use Rattle.rules.specs.Calls.{telling, message};
+ghost use Rattle.rules.specs.Frame.{lent};
+ghost use Rattle.rules.specs.Calls.{message};
 ghost use Rattle.rules.specs.Copy.{copy};
 ghost use Rattle.rules.specs.Host.{admit, release};
 ghost use Rattle.rules.specs.Carry.{carried_over};
@@ -17,41 +17,32 @@ ghost use Rattle.gneissfold.specs.Numbers.{message_told, of_message, host_told, 
 ghost use Rattle.gneissfold.specs.Numbers.{of_copy, read_told, of_reading, twelve};
 
 use hub::Tables;
-use words::{DeviceAddress, Fields, Reason, Refusal, Told};
-
-// Tells a reason and the octet concerned, or that there is none.
-fn tell_reason(told: Option<Reason>, reason: &mut u8, octet: &mut u8)
-    ensures { (reason.new ≡ reason_number told) × (octet.new ≡ reason_octet told) }
-{
-    match told {
-        Some(fault) => {
-            *reason = fault.number();
-            *octet = fault.octet();
-        }
-        None => {
-            *reason = 0;
-            *octet = 0;
-        }
-    }
-}
+use words::{DeviceAddress, Fields, Outcome, Reason, Refusal};
 
 // Tells what a message was answered: its count or length, its reason and the octet concerned go where the caller points, and its number is returned.
-pub fn tell(told: Result<Told, Refusal>, count: &mut usize, reason: &mut u8, octet: &mut u8) -> u8
-    ensures { (L : Lent) (r l : List ℕ) → message_told result count.new reason.new octet.new L r l ≡ of_message (telling told L r l) }
+pub fn tell(
+    outcome: Outcome,
+    fault: Option<Reason>,
+    count: &mut usize,
+    reason: &mut u8,
+    octet: &mut u8,
+) -> u8
+    ensures { (result ≡ number_of outcome) × (count.new ≡ value_of outcome)
+        × (reason.new ≡ reason_number fault) × (octet.new ≡ reason_octet fault) }
 {
-    match told {
-        Ok(told) => {
-            let accepted = told.accepted;
-            *count = accepted.value();
-            tell_reason(told.reason, reason, octet);
-            accepted.number()
-        }
-        Err(refusal) => {
-            *count = 0;
-            tell_reason(None, reason, octet);
-            refusal.number()
-        }
-    }
+    *count = match outcome {
+        Ok(accepted) => accepted.value(),
+        Err(_) => 0,
+    };
+    *reason = match fault {
+        Some(fault) => fault.number(),
+        None => 0,
+    };
+    *octet = match fault {
+        Some(fault) => fault.octet(),
+        None => 0,
+    };
+    words::number_of(outcome)
 }
 
 // The number of an answer that tells no length.
@@ -92,8 +83,10 @@ pub fn gneissfold_message(
         members,
         sessions,
     };
-    let told = hub::message(&mut tables, msg, reply, list);
-    tell(told, count, reason, octet)
+    match hub::message(&mut tables, msg, reply, list) {
+        Ok(told) => tell(Ok(told.accepted), told.reason, count, reason, octet),
+        Err(refusal) => tell(Err(refusal), None, count, reason, octet),
+    }
 }
 
 // Admits a device with its rights and its set of units.

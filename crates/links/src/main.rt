@@ -13,7 +13,7 @@ fn read_full(rt: &HostRuntime, room: &mut [u8]) -> io::Result<usize>
     ensures { IfOk result (λ n. n ≤ length room.new) }
 {
     let mut input = rt.stdin();
-    // as many octets as come at a time
+    // counted by hand, since as many octets come as come at a time
     let mut n = 0;
     for _ in 0..room.len() {
         let more = input.read(&mut room[n..])?;

@@ -49,7 +49,7 @@ fn run_of(binds: &[u8], index: &[u8], device: DeviceAddress) -> Run
     Run { from, to }
 }
 
-// Whom the binds reach that the entries of a run name.
+// Whom the binds reach that the entries of a run name: a loop and no `fold`, as `Recipients::take_bound`.
 fn take_run(
     so_far: Recipients,
     list: &mut [u8],
@@ -104,7 +104,7 @@ fn take_near(
     take_run(r, list, binds, index, any, members, f, except)
 }
 
-// Whom the binds reach that match the message, in order.
+// Whom the binds reach that match the message, in order. As in `delivery`, what is collected differs, and the rest is `units::order`.
 fn near_in_order(
     list: &mut [u8],
     binds: &[u8],

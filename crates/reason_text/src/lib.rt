@@ -1,4 +1,4 @@
-// A reason in words that a fitter understands (document 02, request 6).
+// A reason in words that a fitter understands (document 02, request 6), written over a lent buffer as in `writing`.
 #![tactic(auto)]
 
 ghost use Rattle.std.specs.Prelude.{◌≡◌, ◌≤◌, length, Some};

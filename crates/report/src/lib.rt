@@ -1,4 +1,4 @@
-// The text that `links` prints (document 01, Rows to try).
+// The text that `links` prints (document 01, Rows to try), written over a lent buffer as in `writing`.
 #![tactic(auto)]
 
 ghost use Rattle.std.specs.Prelude.{◌≡◌, ◌+◌, ◌*◌, ◌<◌, ◌≤◌, length};
