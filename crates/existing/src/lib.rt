@@ -35,7 +35,7 @@ fn unit_in(record: &[u8], device: DeviceAddress, unit: u8) -> bool
     ensures { result ≡ passes (has_unit device unit) «record».now }
 {
     let this = records::is_match(record, 0, &layouts::address_octets(device.0));
-    this & device_records::in_set(record, UNITS, unit)
+    this && device_records::in_set(record, UNITS, unit)
 }
 
 // Does a record of the table have this device and unit?

@@ -80,7 +80,12 @@ pub fn same_at(s: &[u8], at: usize, want: &[u8]) -> bool
     requires { at + length want.now ≤ length s.now }
     ensures { result ≡ starts want.now (drop at s.now) }
 {
-    s[at..].starts_with(want)
+    for j in 0..want.len() {
+        if s[at + j] != want[j] {
+            return false;
+        }
+    }
+    true
 }
 
 // Are the n octets from `at` on all this value?
@@ -96,7 +101,9 @@ pub fn write_at(s: &mut [u8], at: usize, run: &[u8])
     requires { at + length run.now ≤ length s.old }
     ensures { s.new ≡ sets s.old at run.now }
 {
-    s[at..at + run.len()].copy_from_slice(run);
+    for j in 0..run.len() {
+        s[at + j] = run[j];
+    }
 }
 
 // Writes a run of octets over the first ones; those past it stay.
