@@ -1,10 +1,14 @@
--- Laws of the decoder: the checks that stand before a command's number.
-use Rattle.std.specs.Prelude.{None}
-use Rattle.words.specs.Basics.{◌≡◌, ◌<◌, ◌≤◌, eq-eqb, ne_eqb, le-leb, lt-leb}
+-- Laws of the decoder: one command after the other, and the checks that stand before a command's number.
+use Rattle.std.specs.Prelude.{Option, None, Some}
+use Rattle.words.specs.Basics.{◌≡◌, Bool, cond, ◌<◌, ◌≤◌, eq-eqb, ne_eqb, le-leb, lt-leb}
 use Rattle.words.specs.Names.{command_type, asking_type, flag_set, bind_management, group_management}
-use Rattle.rules.specs.Types.{Fields}
+use Rattle.rules.specs.Types.{Command, Fields}
 use Rattle.rules.specs.Lists.{ask, ◌&◌}
 use Rattle.rules.specs.Payloads.{bind_command, group_command, command}
+
+-- a command, or else what the members behind it say
+pub then_rest : (b : Bool) (k : Command) (r s t : Option Command) → r ≡ cond b (Some k) s → s ≡ t → r ≡ cond b (Some k) t
+then_rest b k r s t p q = cc
 
 -- a type below those of commands, and one above them
 
