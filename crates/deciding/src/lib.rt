@@ -1,4 +1,5 @@
-// What a message comes to (document 01, Outcomes): every check, in the paper's order, before anything is written.
+// What a message comes to (document 01, Outcomes): the checks of what is lent, and those of a message that can be read, each in the paper's order, before
+// anything is written. `hub::message` asks between them whether it can be read.
 #![tactic(auto)]
 
 ghost use Rattle.std.specs.Prelude.{◌≡◌, Ok, Err};
