@@ -28,7 +28,7 @@ fn among(top: u8, i: usize) -> usize
     requires { i < units_length }
     ensures { (result ≡ among top i) × (result ≤ 8) }
 {
-    (top as usize + 1).saturating_sub(i * 8).min(8)
+    (top as usize + 1).clamp(i * 8, i * 8 + 8) - i * 8
 }
 
 // An octet with its n lowest bits set.

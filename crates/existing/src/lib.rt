@@ -1,7 +1,7 @@
 // What exists (document 01, Tables). A device's address and a group's are two types, and a lookup takes only its own.
 #![tactic(auto)]
 
-ghost use Rattle.std.specs.Prelude.{◌≡◌, ◌≤◌, length};
+ghost use Rattle.std.specs.Prelude.{◌≡◌, ◌+◌, ◌≤◌, length, take, drop};
 ghost use Rattle.rules.specs.Types.{Devices, Groups};
 ghost use Rattle.rules.specs.Lists.{any};
 ghost use Rattle.rules.specs.Tables.{records, used, addressed};
@@ -29,22 +29,21 @@ pub fn is_admitted(devices: &[u8], device: DeviceAddress) -> bool
     has_address(devices, DEVICE, device.0)
 }
 
-// Is the record this device's, with this unit?
-fn unit_in(record: &[u8], device: DeviceAddress, unit: u8) -> bool
-    requires { length «record».now ≡ size Devices }
-    ensures { result ≡ passes (has_unit device unit) «record».now }
+// Is the record at `at` this device's, with this unit?
+fn unit_at(devices: &[u8], at: usize, device: DeviceAddress, unit: u8) -> bool
+    requires { at + size Devices ≤ length devices.now }
+    ensures { result ≡ passes (has_unit device unit) (take (size Devices) (drop at devices.now)) }
 {
+    let record = records::record_at(devices, DEVICE, at);
     let this = records::is_match(record, 0, &layouts::address_octets(device.0));
-    this && device_records::in_set(record, UNITS, unit)
+    this && device_records::in_set(devices, at + UNITS, unit)
 }
 
 // Does a record of the table have this device and unit?
 fn has_unit(devices: &[u8], device: DeviceAddress, unit: u8) -> bool
     ensures { result ≡ any (has_unit device unit) (used (table Devices devices.now)) }
 {
-    devices
-        .chunks_exact(DEVICE)
-        .any(|record| unit_in(record, device, unit))
+    (0..devices.len() / DEVICE).any(|i| unit_at(devices, i * DEVICE, device, unit))
 }
 
 // Does the unit exist? "D'0000 is the concentrator: never in the table, unit 0 only, rights 1."
